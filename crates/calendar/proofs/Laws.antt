@@ -1,0 +1,530 @@
+-- Laws of months, minutes, dates and purge minutes. Whoever calls this crate cites these, and never the definitions. Assumes nothing.
+use Prim.Native.Nat.{ℕ, zero, suc, _+_, _-_, _*_, _/_, _%_, _≤_, _<_}
+use native.Mathlib.Numerals.{add-one}
+use native.Mathlib.Omega.{arith}
+use mathlib.Core.Path.{_≡_, refl, sym, ap, _∙_}
+use mathlib.Core.Bool.{Bool, true, cond, _&&_}
+use mathlib.Core.List.{List, [], _∷_}
+use mathlib.Core.Option.{Option, none, some}
+use lib.Dec.{leb, ltb, eqb}
+use borrow.Author.Tests.{leb-true, ltb-true, ltb-false, lt-ltb, le-leb, eq-eqb, eqb-true, eqb-false}
+use Rattle.laws.proofs.Tests.{by, by-order, impossible, apart, either-way, and-left, and-right}
+use Rattle.laws.proofs.Tables.{every-at}
+use Rattle.calendar.specs.declared.Stamp.{Stamp}
+use Rattle.calendar.specs.declared.Date.{Date}
+use Rattle.calendar.specs.Calendar.{leap, monthLength, monthNumber, yearOf, monthOfYear, daysIn, isIssueMonth, issueMonths, allMonths, startOf, isTime, minuteIn, dayExists, isMonth, minuteOf, monthFrom, monthOf, stampAfter, dateIn, dateOf}
+use Rattle.calendar.specs.Months.{Time}
+use Rattle.calendar.specs.Purge.{notBefore, purgeIn, purgeUnder, purgeOf, gives, ownStamp, isPurge}
+use Rattle.calendar.specs.declared.Moment.{Moment}
+use Rattle.calendar.specs.declared.Moment.the-variants as moment
+use Rattle.calendar.specs.declared.Dated.{Dated}
+use Rattle.calendar.specs.declared.Dated.the-variants as dated
+use Rattle.calendar.specs.Paper.{paperMoment, paperDated}
+
+-- ---- months
+-- where the next month starts
+pub start-next : (k : ℕ) → startOf (suc k) ≡ startOf k + 1440 * daysIn k
+unfolding startOf
+start-next k = refl
+
+start-first : startOf 0 ≡ 0
+unfolding startOf
+start-first = refl
+
+abbrev inMonth : ℕ → Bool
+inMonth x = leb 28 x && leb x 31
+
+-- the months' lengths, but for February of a leap year
+abbrev pub lengths : List ℕ
+lengths = 31 ∷ 28 ∷ 31 ∷ 30 ∷ 31 ∷ 30 ∷ 31 ∷ 31 ∷ 30 ∷ 31 ∷ 30 ∷ 31 ∷ []
+
+days-in : (k : ℕ) → inMonth (daysIn k) ≡ true
+unfolding daysIn monthLength
+days-in k =
+    either-way (λ (x : ℕ). inMonth x ≡ true) (eqb (monthOfYear k) 2 && leap (yearOf k))
+    refl
+    (rw (add-one (k % 12)) (every-at inMonth lengths 0 (k % 12) refl (omega arith)))
+
+-- a month has 28 days or more
+pub days-low : (k : ℕ) → 28 ≤ daysIn k
+days-low k = leb-true 28 (daysIn k) (and-left (leb 28 (daysIn k)) (leb (daysIn k) 31) (days-in k))
+
+-- a month has 31 days or fewer
+pub days-high : (k : ℕ) → daysIn k ≤ 31
+days-high k = leb-true (daysIn k) 31 (and-right (leb 28 (daysIn k)) (leb (daysIn k) 31) (days-in k))
+
+start-from : (a d : ℕ) → startOf a ≤ startOf (a + d)
+start-from a zero = let e : a + 0 ≡ a = omega arith in rw e (omega arith)
+start-from a (suc d) =
+    let e : a + suc d ≡ suc (a + d) = omega arith in
+    rw e (omega (arith, start-next (a + d), start-from a d))
+
+-- a later month starts later
+pub start-mono : (a b : ℕ) → a ≤ b → startOf a ≤ startOf b
+start-mono a b h = let e : a + (b - a) ≡ b = omega arith in rw e at (start-from a (b - a))
+
+-- ---- years
+-- the days of the month k, by its year and month
+pub days-of : (k year month : ℕ) → yearOf k ≡ year → monthOfYear k ≡ month → daysIn k ≡ monthLength year month
+unfolding daysIn
+days-of k year month y m = rw (y, m)
+
+year-step : (n m : ℕ) → ltb m 12 ≡ true → startOf (12 * n + suc m) ≡ startOf (12 * n + m) + 1440 * monthLength (1970 + n) (suc m)
+year-step n m h =
+    let low = ltb-true m 12 h in
+    let e : 12 * n + suc m ≡ suc (12 * n + m) = omega arith in
+    rw (e, start-next (12 * n + m), days-of (12 * n + m) (1970 + n) (suc m) (omega arith) (omega arith))
+
+february : (n : ℕ) → monthLength (1970 + n) 2 + (n + 1) / 4 ≡ 28 + (n + 2) / 4
+unfolding monthLength leap
+february n =
+    by (eqb ((1970 + n) % 4) 0)
+    (λ e. rw e (omega (arith, eqb-true ((1970 + n) % 4) 0 e)))
+    (λ e. rw e (omega (arith, eqb-false ((1970 + n) % 4) 0 e)))
+
+year-next : (n : ℕ) → startOf (12 * n + 12) ≡ startOf (12 * n + 0) + 1440 * (337 + monthLength (1970 + n) 2)
+unfolding monthLength
+year-next n =
+    omega (arith, year-step n 0 refl, year-step n 1 refl, year-step n 2 refl, year-step n 3 refl, year-step n 4 refl, year-step n 5 refl, year-step n 6 refl, year-step n 7 refl, year-step n 8 refl, year-step n 9 refl, year-step n 10 refl, year-step n 11 refl)
+
+-- where the year 1970 + n starts
+pub start-year : (n : ℕ) → startOf (12 * n) ≡ 1440 * (365 * n + (n + 1) / 4)
+start-year zero = start-first
+start-year (suc n) =
+    let a : 12 * suc n ≡ 12 * n + 12 = omega arith in
+    let b : 12 * n + 0 ≡ 12 * n = omega arith in
+    rw (a, year-next n, b, start-year n) (omega (arith, february n))
+
+-- where the calendar ends
+pub start-end : startOf allMonths ≡ 68418720
+unfolding monthLength
+start-end = omega (arith, start-next issueMonths, start-year 130, days-of issueMonths 2100 1 refl refl)
+
+-- ---- the month of a minute
+-- minute t falls in month k of the calendar
+pub record Falls (t k : ℕ) : Type 0 where
+  pub low : startOf k ≤ t
+  pub high : t < startOf (suc k)
+  pub known : k < allMonths
+
+-- what `monthFrom` answers: none from month n on, else the month
+data Answers (t n : ℕ) : Option ℕ → Type 0 where
+  past : startOf n ≤ t → Answers t n none
+  falls : (k : ℕ) → startOf k ≤ t → t < startOf (suc k) → k < n → Answers t n (some k)
+
+answers : (n k t : ℕ) → startOf k ≤ t → Answers t (k + n) (monthFrom n k (t - startOf k))
+unfolding monthFrom
+answers zero k t h = let e : k + 0 ≡ k = omega arith in rw e (past h)
+answers (suc n) k t h =
+    let next = start-next k in
+    by (ltb (t - startOf k) (1440 * daysIn k))
+    (λ e. rw (e, monthFrom) (falls k h (omega (arith, ltb-true (t - startOf k) (1440 * daysIn k) e)) (omega arith)))
+    (λ e.
+    let later : startOf (suc k) ≤ t = omega (arith, ltb-false (t - startOf k) (1440 * daysIn k) e) in
+    let rest : t - startOf k - 1440 * daysIn k ≡ t - startOf (suc k) = omega arith in
+    let last : k + suc n ≡ suc k + n = omega arith in
+    rw (e, monthFrom, rest, last) (answers n (suc k) t later))
+
+month-answers : (t : ℕ) → Answers t allMonths (monthOf t)
+unfolding monthOf
+month-answers t =
+    let e : t - startOf 0 ≡ t = omega (arith, start-first) in rw e at (answers allMonths 0 t (omega (arith, start-first)))
+
+-- the month that is answered is the one that the minute falls in
+pub month-some : (t k : ℕ) → monthOf t ≡ some k → Falls t k
+month-some t k e = go (monthOf t) (month-answers t) e
+  where
+    go : (o : Option ℕ) → Answers t allMonths o → o ≡ some k → Falls t k
+    go none (past h) q = apart cc
+    go (some _) (falls j low high known) q =
+        let same : j ≡ k = cc in
+        rw (← same) (record { low = low; high = high; known = known })
+
+-- no month is answered only past the calendar's end
+pub month-none : (t : ℕ) → monthOf t ≡ none → 68418720 ≤ t
+month-none t e = go (monthOf t) (month-answers t) e
+  where
+    go : (o : Option ℕ) → Answers t allMonths o → o ≡ none → 68418720 ≤ t
+    go none (past h) q = omega (arith, start-end)
+    go (some j) a q = apart cc
+
+-- what falls in a month of the calendar stands before its end
+pub falls-low : (t k : ℕ) → Falls t k → t < 68418720
+falls-low t k f = omega (arith, start-end, start-mono (suc k) allMonths (omega (arith, f .known)), f .high)
+
+-- a minute falls in one month
+pub falls-one : (t j k : ℕ) → Falls t j → Falls t k → j ≡ k
+falls-one t j k f g =
+    by-order j k
+    (λ h. impossible (omega (arith, start-mono (suc j) k h, f .high, g .low)))
+    (λ h.
+    by-order k j
+    (λ l. impossible (omega (arith, start-mono (suc k) j l, g .high, f .low)))
+    (λ l. omega arith))
+
+-- the month that a minute falls in is answered
+pub month-is : (t k : ℕ) → Falls t k → monthOf t ≡ some k
+month-is t k f = go (monthOf t) refl
+  where
+    go : (o : Option ℕ) → monthOf t ≡ o → monthOf t ≡ some k
+    go none e = impossible (omega (arith, month-none t e, falls-low t k f))
+    go (some j) e = e ∙ ap some (falls-one t j k (month-some t j e) f)
+
+-- no month is answered past the calendar's end
+pub month-past : (t : ℕ) → 68418720 ≤ t → monthOf t ≡ none
+month-past t h = go (monthOf t) refl
+  where
+    go : (o : Option ℕ) → monthOf t ≡ o → monthOf t ≡ none
+    go none e = e
+    go (some j) e = impossible (omega (arith, falls-low t j (month-some t j e)))
+
+-- ---- DDHHMM
+-- DDHHMM is in its ranges where the test says so
+pub time-true : (s : Stamp) → isTime s ≡ true → Time s
+unfolding isTime
+time-true s e =
+    let a = leb 1 (s .day) in
+    let b = leb (s .day) 31 in
+    let c = leb (s .hour) 23 in
+    let d = leb (s .minute) 59 in
+    let abc = and-left (a && b && c) d e in
+    let ab = and-left (a && b) c abc in
+    record {
+      first = leb-true 1 (s .day) (and-left a b ab);
+      last = leb-true (s .day) 31 (and-right a b ab);
+      hours = leb-true (s .hour) 23 (and-right (a && b) c abc);
+      minutes = leb-true (s .minute) 59 (and-right (a && b && c) d e);
+    }
+
+-- and the test says so of what is
+pub time-is : (s : Stamp) → Time s → isTime s ≡ true
+unfolding isTime
+time-is s t = rw (le-leb 1 (s .day) (t .first), le-leb (s .day) 31 (t .last), le-leb (s .hour) 23 (t .hours), le-leb (s .minute) 59 (t .minutes))
+
+stamp-path : {d d′ h h′ m m′ : ℕ} → d ≡ d′ → h ≡ h′ → m ≡ m′ → _≡_ {A = Stamp} (record { day = d; hour = h; minute = m }) (record { day = d′; hour = h′; minute = m′ })
+stamp-path e f g = λ i. record { day = e i; hour = f i; minute = g i }
+
+-- a DDHHMM of month k
+module _ (k : ℕ) (s : Stamp) (time : isTime s ≡ true) (day : s .day ≤ daysIn k) where
+  falls-in : k < allMonths → Falls (minuteIn k s) k
+  unfolding minuteIn
+  falls-in h =
+      let t = time-true s time in
+      record { low = omega arith; high = omega (arith, start-next k); known = h }
+
+  stamp-in : stampAfter (minuteIn k s - startOf k) ≡ s
+  unfolding minuteIn
+  stamp-in = let t = time-true s time in stamp-path (omega arith) (omega arith) (omega arith)
+
+-- DDHHMM so many minutes after a month's start is the minute so many after it
+pub minute-after : (k left : ℕ) → minuteIn k (stampAfter left) ≡ startOf k + left
+unfolding minuteIn
+minute-after k left = omega arith
+
+-- a minute of month k
+module _ (k t : ℕ) (f : Falls t k) where
+  -- its DDHHMM is in its ranges
+  pub after-time : Time (stampAfter (t - startOf k))
+  after-time =
+      let end = start-next k in
+      let most = days-high k in
+      record { first = omega arith; last = omega (arith, f .low, f .high); hours = omega arith; minutes = omega arith }
+
+  -- and its day exists
+  pub after-day : stampAfter (t - startOf k) .day ≤ daysIn k
+  after-day = omega (arith, start-next k, f .low, f .high)
+
+  -- its DDHHMM gives it back
+  pub after-back : minuteIn k (stampAfter (t - startOf k)) ≡ t
+  after-back = omega (arith, minute-after k (t - startOf k), f .low)
+
+  -- its date
+  pub date-is : dateOf t ≡ some (record { year = yearOf k; month = monthOfYear k; stamp = stampAfter (t - startOf k) })
+  unfolding dateOf
+  date-is = rw (month-is t k f)
+
+-- ---- dates
+-- a month of the calendar
+pub record Known (year month : ℕ) : Type 0 where
+  pub from : 1970 ≤ year
+  pub first : 1 ≤ month
+  pub last : month ≤ 12
+  pub known : monthNumber year month < allMonths
+
+-- a month is of the calendar where the test says so
+pub month-true : (year month : ℕ) → isMonth year month ≡ true → Known year month
+unfolding isMonth
+month-true year month e =
+    let a = leb 1970 year in
+    let b = leb 1 month in
+    let c = leb month 12 in
+    let d = ltb (monthNumber year month) allMonths in
+    let abc = and-left (a && (b && c)) d e in
+    let bc = and-right a (b && c) abc in
+    record {
+      from = leb-true 1970 year (and-left a (b && c) abc);
+      first = leb-true 1 month (and-left b c bc);
+      last = leb-true month 12 (and-right b c bc);
+      known = ltb-true (monthNumber year month) allMonths (and-right (a && (b && c)) d e);
+    }
+
+-- and the test says so of what is
+pub known-month : (year month : ℕ) → Known year month → isMonth year month ≡ true
+unfolding isMonth
+known-month year month k =
+    rw (le-leb 1970 year (k .from), le-leb 1 month (k .first), le-leb month 12 (k .last), lt-ltb (monthNumber year month) allMonths (k .known))
+
+-- a month of the years that an issue may have
+pub record IssueMonth (year month : ℕ) : Type 0 where
+  pub from : 1970 ≤ year
+  pub to : year ≤ 2099
+  pub first : 1 ≤ month
+  pub last : month ≤ 12
+
+-- a month is an issue's where the test says so
+pub issue-true : (year month : ℕ) → isIssueMonth year month ≡ true → IssueMonth year month
+unfolding isIssueMonth
+issue-true year month e =
+    let a = leb 1970 year in
+    let b = leb year 2099 in
+    let c = leb 1 month in
+    let d = leb month 12 in
+    let ab = and-left (a && b) (c && d) e in
+    let cd = and-right (a && b) (c && d) e in
+    record {
+      from = leb-true 1970 year (and-left a b ab);
+      to = leb-true year 2099 (and-right a b ab);
+      first = leb-true 1 month (and-left c d cd);
+      last = leb-true month 12 (and-right c d cd);
+    }
+
+-- and the test says so of what is
+pub issue-month : (year month : ℕ) → IssueMonth year month → isIssueMonth year month ≡ true
+unfolding isIssueMonth
+issue-month year month i = rw (le-leb 1970 year (i .from), le-leb year 2099 (i .to), le-leb 1 month (i .first), le-leb month 12 (i .last))
+
+-- the date d is of the calendar, and t its minute
+record Dates (d : Date) (t : ℕ) : Type 0 where
+  month : Known (d .year) (d .month)
+  time : isTime (d .stamp) ≡ true
+  day : d .stamp .day ≤ daysIn (monthNumber (d .year) (d .month))
+  here : minuteIn (monthNumber (d .year) (d .month)) (d .stamp) ≡ t
+
+minute-true : (d : Date) (t : ℕ) → minuteOf d ≡ some t → Dates d t
+unfolding minuteOf
+minute-true d t e =
+    let k = monthNumber (d .year) (d .month) in
+    let a = isMonth (d .year) (d .month) in
+    let b = isTime (d .stamp) in
+    let c = dayExists k (d .stamp) in
+    by (a && b && c)
+    (λ q.
+    let f : some (minuteIn k (d .stamp)) ≡ some t = rw q at e in
+    record {
+      month = month-true (d .year) (d .month) (and-left a b (and-left (a && b) c q));
+      time = and-right a b (and-left (a && b) c q);
+      day = leb-true (d .stamp .day) (daysIn k) (and-right (a && b) c q);
+      here = cc;
+    })
+    (λ q. let f : _≡_ {A = Option ℕ} none (some t) = rw q at e in apart cc)
+
+minute-is : (d : Date) (t : ℕ) → Dates d t → minuteOf d ≡ some t
+unfolding minuteOf
+minute-is d t h =
+    let k = monthNumber (d .year) (d .month) in
+    rw (known-month (d .year) (d .month) (h .month), h .time, le-leb (d .stamp .day) (daysIn k) (h .day)) (ap some (h .here))
+
+-- a date's minute stands before the calendar's end
+pub minute-low : (d : Date) (t : ℕ) → minuteOf d ≡ some t → t < 68418720
+minute-low d t e =
+    let h = minute-true d t e in
+    let k = monthNumber (d .year) (d .month) in
+    rw (h .here) at (falls-low (minuteIn k (d .stamp)) k (falls-in k (d .stamp) (h .time) (h .day) (h .month .known)))
+
+date-path : {y y′ m m′ : ℕ} {s s′ : Stamp} → y ≡ y′ → m ≡ m′ → s ≡ s′
+    → _≡_ {A = Date} (record { year = y; month = m; stamp = s }) (record { year = y′; month = m′; stamp = s′ })
+date-path e f g = λ i. record { year = e i; month = f i; stamp = g i }
+
+-- a date is what its minute gives back
+pub minute-date : (d : Date) (t : ℕ) → minuteOf d ≡ some t → dateOf t ≡ some d
+minute-date d t e =
+    let h = minute-true d t e in
+    let m = h .month in
+    let k = monthNumber (d .year) (d .month) in
+    let back = date-is k (minuteIn k (d .stamp)) (falls-in k (d .stamp) (h .time) (h .day) (m .known)) in
+    let year : yearOf k ≡ d .year = omega arith in
+    let month : monthOfYear k ≡ d .month = omega arith in
+    (rw (h .here) at back)
+    ∙ ap some (date-path year month ((rw (← h .here)) ∙ stamp-in k (d .stamp) (h .time) (h .day)))
+
+-- the date of month k, so many minutes after its start, is of the calendar
+dates-is : (t k : ℕ) → Falls t k → Dates (record { year = yearOf k; month = monthOfYear k; stamp = stampAfter (t - startOf k) }) t
+dates-is t k f =
+    let same : monthNumber (yearOf k) (monthOfYear k) ≡ k = omega arith in
+    record {
+      month = record { from = omega arith; first = omega arith; last = omega arith; known = rw same (f .known) };
+      time = time-is (stampAfter (t - startOf k)) (after-time k t f);
+      day = rw same (after-day k t f);
+      here = rw same (after-back k t f);
+    }
+
+-- a minute before the calendar's end has a date
+pub date-some : (t : ℕ) → t < 68418720 → (d : Date) × (dateOf t ≡ some d)
+date-some t h = go (monthOf t) refl
+  where
+    go : (o : Option ℕ) → monthOf t ≡ o → (d : Date) × (dateOf t ≡ some d)
+    go none e = impossible (omega (arith, month-none t e))
+    go (some k) e = (record { year = yearOf k; month = monthOfYear k; stamp = stampAfter (t - startOf k) }, date-is k t (month-some t k e))
+
+-- a minute is what its date gives back
+pub date-minute : (d : Date) (t : ℕ) → dateOf t ≡ some d → minuteOf d ≡ some t
+unfolding dateOf
+date-minute d t e = go (monthOf t) refl e
+  where
+    go : (o : Option ℕ) → monthOf t ≡ o → dateIn t o ≡ some d → minuteOf d ≡ some t
+    go none q h = apart cc
+    go (some k) q h =
+        let same : record { year = yearOf k; month = monthOfYear k; stamp = stampAfter (t - startOf k) } ≡ d = cc in
+        rw (← same) (minute-is _ t (dates-is t k (month-some t k q)))
+
+-- a date's DDHHMM is in its ranges
+pub date-time : (d : Date) (t : ℕ) → dateOf t ≡ some d → isTime (d .stamp) ≡ true
+unfolding dateOf
+date-time d t e = go (monthOf t) refl e
+  where
+    go : (o : Option ℕ) → monthOf t ≡ o → dateIn t o ≡ some d → isTime (d .stamp) ≡ true
+    go none q h = apart cc
+    go (some k) q h =
+        let same : record { year = yearOf k; month = monthOfYear k; stamp = stampAfter (t - startOf k) } ≡ d = cc in
+        rw (← same) (time-is (stampAfter (t - startOf k)) (after-time k t (month-some t k q)))
+
+-- ---- the purge minute
+-- s gives the purge minute t under an issue: in the issue's month or the next, which is month `at`
+pub record Purges (issue : ℕ) (s : Stamp) (t : ℕ) : Type 0 where
+  pub month : ℕ
+  pub at : ℕ
+  pub issued : Falls issue month
+  pub last : month < issueMonths
+  pub near : at ≤ suc month
+  pub time : isTime s ≡ true
+  pub day : s .day ≤ daysIn at
+  pub here : minuteIn at s ≡ t
+  pub from : issue ≤ t
+
+module _ (issue t k : ℕ) (s : Stamp) (f : Falls issue k) (last : k < issueMonths) (time : isTime s ≡ true) where
+  purge-at : (j : ℕ) → j ≤ suc k → dayExists j s ≡ true → minuteIn j s ≡ t → issue ≤ t → Purges issue s t
+  purge-at j near day here from =
+      record { month = k; at = j; issued = f; last = last; near = near; time = time; day = leb-true (s .day) (daysIn j) day; here = here; from = from }
+
+  purge-in : purgeIn k issue s ≡ some t → Purges issue s t
+  unfolding purgeIn minuteIn
+  purge-in e =
+      let a = dayExists k s in
+      let b = notBefore issue (minuteIn k s) in
+      by (a && b)
+      (λ q.
+      let g : some (minuteIn k s) ≡ some t = rw q at e in
+      let here : minuteIn k s ≡ t = cc in
+      purge-at k (omega arith) (and-left a b q) here (omega (arith, leb-true issue (minuteIn k s) (and-right a b q))))
+      (λ q.
+      let g : cond (dayExists (suc k) s) (some (minuteIn (suc k) s)) none ≡ some t = rw q at e in
+      by (dayExists (suc k) s)
+      (λ p.
+      let h : some (minuteIn (suc k) s) ≡ some t = rw p at g in
+      let here : minuteIn (suc k) s ≡ t = cc in
+      purge-at (suc k) (omega arith) p here (omega (arith, f .high)))
+      (λ p. let h : _≡_ {A = Option ℕ} none (some t) = rw p at g in apart cc))
+
+-- what a purge minute is, and whence
+pub purge-true : (issue : ℕ) (s : Stamp) (t : ℕ) → purgeOf issue s ≡ some t → Purges issue s t
+unfolding purgeOf
+purge-true issue s t e = go (monthOf issue) refl e
+  where
+    go : (o : Option ℕ) → monthOf issue ≡ o → purgeUnder o issue s ≡ some t → Purges issue s t
+    go none q h = apart cc
+    go (some k) q h =
+        let a = ltb k issueMonths in
+        by (a && isTime s)
+        (λ p.
+        purge-in issue t k s (month-some issue k q) (ltb-true k issueMonths (and-left a (isTime s) p)) (and-right a (isTime s) p)
+        (rw p at h))
+        (λ p. let g : _≡_ {A = Option ℕ} none (some t) = rw p at h in apart cc)
+
+-- the month of a purge minute
+pub falls-purge : (issue : ℕ) (s : Stamp) (t : ℕ) (p : Purges issue s t) → Falls t (p .at)
+falls-purge issue s t p = rw (p .here) at (falls-in (p .at) s (p .time) (p .day) (omega (arith, p .last, p .near)))
+
+-- the DDHHMM of a minute's date
+pub record Stamped (t : ℕ) (s : Stamp) : Type 0 where
+  pub date : Date
+  pub dated : dateOf t ≡ some date
+  pub stamp : date .stamp ≡ s
+
+module _ (issue : ℕ) (s : Stamp) (t : ℕ) (e : purgeOf issue s ≡ some t) where
+  -- a purge minute is not before the issue
+  pub purge-from : issue ≤ t
+  purge-from = purge-true issue s t e .from
+
+  -- a purge minute stands before the calendar's end
+  pub purge-low : t < 68418720
+  purge-low = let p = purge-true issue s t e in falls-low t (p .at) (falls-purge issue s t p)
+
+  -- DDHHMM is in its ranges where it gives a purge minute
+  pub purge-time : isTime s ≡ true
+  purge-time = purge-true issue s t e .time
+
+  -- the DDHHMM that gives a purge minute is the minute's own
+  pub purge-stamp : Stamped t s
+  purge-stamp =
+      let p = purge-true issue s t e in
+      record {
+        date = record { year = yearOf (p .at); month = monthOfYear (p .at); stamp = stampAfter (t - startOf (p .at)) };
+        dated = date-is (p .at) t (falls-purge issue s t p);
+        stamp = ap (λ (x : ℕ). stampAfter (x - startOf (p .at))) (sym (p .here)) ∙ stamp-in (p .at) s (p .time) (p .day);
+      }
+
+  -- what a DDHHMM gives is a purge minute
+  pub purge-is : isPurge issue t ≡ true
+  unfolding isPurge
+  purge-is = let p = purge-stamp in rw (p .dated, p .stamp, e) (eq-eqb t t refl)
+
+-- t is what the DDHHMM of its date gives under the issue
+pub record Purged (issue t : ℕ) : Type 0 where
+  pub date : Date
+  pub dated : dateOf t ≡ some date
+  pub given : purgeOf issue (date .stamp) ≡ some t
+  pub time : isTime (date .stamp) ≡ true
+
+-- a purge minute is what its own DDHHMM gives
+pub purge-own : (issue t : ℕ) → isPurge issue t ≡ true → Purged issue t
+unfolding isPurge
+purge-own issue t e = go (dateOf t) refl e
+  where
+    own : (d : Date) (o : Option ℕ) → dateOf t ≡ some d → purgeOf issue (d .stamp) ≡ o → gives o t ≡ true → Purged issue t
+    own d none a q h = apart cc
+    own d (some m) a q h =
+        let g : purgeOf issue (d .stamp) ≡ some t = q ∙ ap some (eqb-true m t h) in
+        record { date = d; dated = a; given = g; time = purge-time issue (d .stamp) t g }
+
+    go : (o : Option Date) → dateOf t ≡ o → ownStamp issue t o ≡ true → Purged issue t
+    go none a h = apart cc
+    go (some d) a h = own d (purgeOf issue (d .stamp)) a refl h
+
+-- a purge minute is not before the issue
+pub purge-after : (issue t : ℕ) → isPurge issue t ≡ true → issue ≤ t
+purge-after issue t e = let p = purge-own issue t e in purge-from issue (p .date .stamp) t (p .given)
+
+-- ---- the code's answers
+-- different minutes are different answers
+pub moment-one : (a b : Moment) → paperMoment a ≡ paperMoment b → a ≡ b
+moment-one moment.Nothing moment.Nothing e = refl
+moment-one moment.Nothing (moment.At m) e = apart cc
+moment-one (moment.At m) moment.Nothing e = apart cc
+moment-one (moment.At m) (moment.At n) e = let same : m ≡ n = cc in ap moment.At same
+
+-- different dates are different answers
+pub dated-one : (a b : Dated) → paperDated a ≡ paperDated b → a ≡ b
+dated-one dated.Nothing dated.Nothing e = refl
+dated-one dated.Nothing (dated.On d) e = apart cc
+dated-one (dated.On d) dated.Nothing e = apart cc
+dated-one (dated.On d) (dated.On f) e = let same : d ≡ f = cc in ap dated.On same

@@ -1,0 +1,395 @@
+-- One law for each way out of the code. Assumes nothing.
+use Prim.Native.Nat.{ℕ, suc, _+_, _-_, _*_, _/_, _%_, _≤_, _<_}
+use native.Mathlib.Omega.{arith}
+use mathlib.Core.Path.{_≡_, refl, sym, ap, _∙_}
+use mathlib.Core.Bool.{Bool, true, false, not, _&&_, _||_, or-true}
+use mathlib.Core.List.{_∷_}
+use mathlib.Core.Option.{Option, none, some}
+use lib.ListN.{getD, List·getD-eq-default}
+use lib.Dec.{leb, ltb, eqb}
+use mir.Syntax.{w64}
+use mir.Val.{Fits}
+use borrow.Author.Tests.{leb-true, ltb-true, lt-ltb, le-leb, lt-leb, ne-eqb, eq-eqb, eqb-true, not-true, not-false}
+use Rattle.laws.proofs.Tests.{by, by-order, impossible, apart, and-left, and-right, same-test}
+use Rattle.laws.proofs.Tables.{every-at}
+use Rattle.calendar.specs.declared.Stamp.{Stamp}
+use Rattle.calendar.specs.declared.Date.{Date}
+use Rattle.calendar.specs.declared.Month.{Month}
+use Rattle.calendar.specs.declared.Found.{Found}
+use Rattle.calendar.specs.declared.Found.the-variants as found
+use Rattle.calendar.specs.Calendar.{leap, monthLength, monthNumber, yearOf, monthOfYear, daysIn, isIssueMonth, issueMonths, allMonths, startOf, isTime, minuteIn, dayExists, isMonth, minuteOf, monthOf, stampAfter, dateOf}
+use Rattle.calendar.specs.declared.Moment.the-variants as moment
+use Rattle.calendar.specs.declared.Dated.the-variants as dated
+use Rattle.calendar.specs.Paper.{paperMoment, paperDated}
+use Rattle.calendar.specs.Purge.{notBefore, purgeIn, purgeOf, isPurge}
+use Rattle.calendar.specs.Months.{InYear, Time, monthAt, monthIn, paperFound}
+use Rattle.calendar.proofs.Laws.{start-next, days-low, days-high, start-mono, start-year, start-end, days-of, lengths, Falls, falls-low, falls-one, month-some, month-none, month-is, month-past, time-true, time-is, month-true, known-month, issue-true, issue-month, minute-after, after-time, after-day, after-back, date-is, purge-true, falls-purge, purge-is, purge-own, Purges}
+
+-- ---- month_length
+module _ (year month : ℕ) where
+  pub length-leap : (eqb month 2 && eqb (year % 4) 0) ≡ true → 29 ≡ monthLength year month
+  unfolding monthLength leap
+  length-leap h = simp h
+
+  module _ (h : (eqb month 2 && eqb (year % 4) 0) ≡ false) where
+    pub length-plain : getD (0 ∷ lengths) month 0 ≡ monthLength year month
+    unfolding monthLength leap
+    length-plain = simp h
+
+    pub length-none : 13 ≤ month → 0 ≡ monthLength year month
+    length-none k = sym (List·getD-eq-default (0 ∷ lengths) 0 k) ∙ length-plain
+
+pub length-most : (month : ℕ) → month < 13 → getD (0 ∷ lengths) month 0 ≤ 31
+length-most month h = leb-true _ 31 (every-at (λ x. leb x 31) (0 ∷ lengths) 0 month refl h)
+
+-- ---- is_month
+pub month-issue : (year month : ℕ) (issue : Bool) → issue ≡ isIssueMonth year month → (issue || (eqb year 2100 && eqb month 1)) ≡ isMonth year month
+month-issue year month issue e = same-test (issue || (eqb year 2100 && eqb month 1)) (isMonth year month) to from
+  where
+    to : (issue || (eqb year 2100 && eqb month 1)) ≡ true → isMonth year month ≡ true
+    to h =
+        by issue
+        (λ i.
+        let m = issue-true year month (sym e ∙ i) in
+        known-month year month (record { from = m .from; first = m .first; last = m .last; known = omega arith }))
+        (λ i.
+        let j : (eqb year 2100 && eqb month 1) ≡ true = rw i at h in
+        let a = eqb-true year 2100 (and-left (eqb year 2100) (eqb month 1) j) in
+        let b = eqb-true month 1 (and-right (eqb year 2100) (eqb month 1) j) in
+        known-month year month (record { from = omega arith; first = omega arith; last = omega arith; known = omega arith }))
+
+    from : isMonth year month ≡ true → (issue || (eqb year 2100 && eqb month 1)) ≡ true
+    from h =
+        let k = month-true year month h in
+        by-order year 2100
+        (λ i. rw (e, issue-month year month (record { from = k .from; to = omega arith; first = k .first; last = k .last })))
+        (λ i. rw (eq-eqb year 2100 (omega arith), eq-eqb month 1 (omega arith)) (or-true issue))
+
+-- ---- next_length
+module _ (year month r : ℕ) (m : InYear year month) where
+  pub next-year : month ≡ 12 → r ≡ monthLength (year + 1) 1 → r ≡ daysIn (suc (monthNumber year month))
+  next-year h e = e ∙ sym (days-of (suc (monthNumber year month)) (year + 1) 1 (omega arith) (omega arith))
+
+  pub next-month : (month ≡ 12 → ⊥) → r ≡ monthLength year (month + 1) → r ≡ daysIn (suc (monthNumber year month))
+  next-month h e = e ∙ sym (days-of (suc (monthNumber year month)) year (month + 1) (omega arith) (omega arith))
+
+-- ---- month_start
+-- so many months of the year are passed
+pub record Passed (year month passed start : ℕ) : Type 0 where
+  pub first : 1 ≤ passed
+  pub last : passed ≤ month
+  pub here : start ≡ startOf (monthNumber year passed)
+  pub small : start < 100000000
+
+-- enough that sums of such a start fit
+start-small : (k : ℕ) → k ≤ 1572 → startOf k < 100000000
+start-small k h = omega (arith, start-mono k (12 * 131) h, start-year 131)
+
+module _ (year month : ℕ) (m : InYear year month) where
+  pub passed-none : (days : ℕ) → 1440 * days ≡ startOf (12 * (year - 1970)) → Passed year month 1 (1440 * days)
+  passed-none days e =
+      let same : 12 * (year - 1970) ≡ monthNumber year 1 = omega arith in
+      let here : 1440 * days ≡ startOf (monthNumber year 1) = e ∙ ap startOf same in
+      record { first = omega arith; last = m .first; here = here; small = omega (arith, start-small (monthNumber year 1) (omega arith)) }
+
+  module _ (passed start : ℕ) (p : Passed year month passed start) where
+    pub passed-on : (days : ℕ) → passed < month → days ≡ monthLength year passed → Passed year month (passed + 1) (start + 1440 * days)
+    passed-on days h e =
+        let k = monthNumber year passed in
+        let same : monthNumber year (passed + 1) ≡ suc k = omega arith in
+        let days-are : days ≡ daysIn k = e ∙ sym (days-of k year passed (omega arith) (omega arith)) in
+        let here : start + 1440 * days ≡ startOf (monthNumber year (passed + 1)) = omega (arith, ap startOf same, start-next k, p .here) in
+        record { first = omega arith; last = omega arith; here = here; small = omega (arith, start-small (monthNumber year (passed + 1)) (omega arith)) }
+
+    pub passed-all : month ≤ passed → start ≡ startOf (monthNumber year month)
+    passed-all h =
+        let same : passed ≡ month = omega arith in
+        p .here ∙ ap (λ (i : ℕ). startOf (monthNumber year i)) same
+
+-- ---- month_of
+-- month after month of the year 1970 + n, in which minute t falls
+pub record Turns (t n month start days : ℕ) : Type 0 where
+  pub first : 1 ≤ month
+  pub last : month ≤ 12
+  pub few : n ≤ 130
+  pub here : start ≡ startOf (12 * n + (month - 1))
+  pub days-are : days ≡ monthLength (1970 + n) month
+  pub most : days ≤ 31
+  pub low : start ≤ t
+  pub high : t < startOf (12 * n + 12)
+  pub end : t < 68418720
+
+month-path : {y y′ m m′ s s′ d d′ : ℕ} → y ≡ y′ → m ≡ m′ → s ≡ s′ → d ≡ d′
+    → _≡_ {A = Month} (record { year = y; month = m; start = s; days = d }) (record { year = y′; month = m′; start = s′; days = d′ })
+month-path e f g h = λ i. record { year = e i; month = f i; start = g i; days = h i }
+
+module _ (t n : ℕ) where
+  pub turns-first : (before days : ℕ) → t < 68418720 → n ≡ (4 * (t / 1440) + 2) / 1461 → 1440 * before ≡ startOf (12 * n) → days ≡ monthLength (1970 + n) 1 → days ≤ 31 → Turns t n 1 (1440 * before) days
+  turns-first before days h e b d most =
+      let first : 12 * n + 0 ≡ 12 * n = omega arith in
+      let next : 12 * n + 12 ≡ 12 * suc n = omega arith in
+      record {
+        first = omega arith;
+        last = omega arith;
+        few = omega arith;
+        here = rw first b;
+        days-are = d;
+        most = most;
+        low = omega (arith, start-year n);
+        high = rw next (omega (arith, start-year (suc n)));
+        end = h;
+      }
+
+  module _ (month start days : ℕ) (v : Turns t n month start days) where
+    here-days : days ≡ daysIn (12 * n + (month - 1))
+    here-days = v .days-are ∙ sym (days-of (12 * n + (month - 1)) (1970 + n) month (omega (arith, v .first, v .last)) (omega (arith, v .first, v .last)))
+
+    here-next : start + 1440 * days ≡ startOf (suc (12 * n + (month - 1)))
+    here-next = omega (arith, v .here, start-next (12 * n + (month - 1)), here-days)
+
+    pub turns-on : (later : ℕ) → start + 1440 * days ≤ t → later ≡ monthLength (1970 + n) (month + 1) → later ≤ 31 → Turns t n (month + 1) (start + 1440 * days) later
+    turns-on later h e most =
+        let k = 12 * n + (month - 1) in
+        let same : 12 * n + (month + 1 - 1) ≡ suc k = omega (arith, v .first) in
+        let not-last : month < 12 =
+        by-order month 12
+        (λ l. l)
+        (λ l.
+        let last : suc k ≡ 12 * n + 12 = omega (arith, v .first, v .last) in
+        impossible (omega (arith, ap startOf last, here-next, v .high)))
+        in
+        record {
+          first = omega arith;
+          last = omega arith;
+          few = v .few;
+          here = rw same here-next;
+          days-are = e;
+          most = most;
+          low = h;
+          high = v .high;
+          end = v .end;
+        }
+
+    pub turns-end : t < start + 1440 * days → paperFound (found.In (record { year = 1970 + n; month = month; start = start; days = days })) ≡ monthIn (monthOf t)
+    turns-end h =
+        let k = 12 * n + (month - 1) in
+        let low : startOf k ≤ t = omega (arith, v .here, v .low) in
+        let known : k < allMonths = by-order k allMonths (λ l. l) (λ l. impossible (omega (arith, start-mono allMonths k l, start-end, v .end))) in
+        rw (month-is t k (record { low = low; high = omega (arith, here-next); known = known }))
+        (ap some (month-path (omega (arith, v .first, v .last)) (omega (arith, v .first, v .last)) (v .here) here-days))
+
+pub month-gone : (t : ℕ) → 68418720 ≤ t → paperFound found.Nothing ≡ monthIn (monthOf t)
+month-gone t h = rw (month-past t h)
+
+-- ---- what month_of found
+-- minute t falls in month k, which is m
+pub record Stands (t : ℕ) (m : Month) : Type 0 where
+  pub k : ℕ
+  pub found-at : monthOf t ≡ some k
+  pub falls : Falls t k
+  pub year : m .year ≡ yearOf k
+  pub month : m .month ≡ monthOfYear k
+  pub start : m .start ≡ startOf k
+  pub days : m .days ≡ daysIn k
+
+module _ (t : ℕ) (r : Found) (e : paperFound r ≡ monthIn (monthOf t)) where
+  pub none-found : r ≡ found.Nothing → monthOf t ≡ none
+  none-found q = go (monthOf t) refl (rw q at e)
+    where
+      go : (o : Option ℕ) → monthOf t ≡ o → none ≡ monthIn o → monthOf t ≡ none
+      go none p h = p
+      go (some k) p h = apart cc
+
+  pub stands : (m : Month) → r ≡ found.In m → Stands t m
+  stands m q = go (monthOf t) refl (rw q at e)
+    where
+      go : (o : Option ℕ) → monthOf t ≡ o → some m ≡ monthIn o → Stands t m
+      go none p h = apart cc
+      go (some k) p h =
+          let same : m ≡ monthAt k = cc in
+          record {
+            k = k;
+            found-at = p;
+            falls = month-some t k p;
+            year = ap (λ (x : Month). x .year) same;
+            month = ap (λ (x : Month). x .month) same;
+            start = ap (λ (x : Month). x .start) same;
+            days = ap (λ (x : Month). x .days) same;
+          }
+
+-- what that says in numbers
+module _ (t : ℕ) (r : Found) (e : paperFound r ≡ monthIn (monthOf t)) (m : Month) (q : r ≡ found.In m) where
+  pub in-year : InYear (m .year) (m .month)
+  in-year =
+      let st = stands t r e m q in
+      let f = st .falls in
+      record { from = omega arith; to = omega arith; first = omega arith; last = omega arith }
+
+  pub start-low : m .start ≤ t
+  start-low = let st = stands t r e m q in omega (arith, st .start, st .falls .low)
+
+  pub days-most : 1440 * m .days ≤ 44640
+  days-most = let st = stands t r e m q in omega (arith, st .days, days-high (st .k))
+
+  pub days-fit : Fits w64 (1440 * m .days)
+  days-fit = omega (arith, days-most)
+
+  module _ (x : ℕ) (h : x ≤ 44640) where
+    pub sum-fits : Fits w64 (m .start + x)
+    sum-fits = let st = stands t r e m q in omega (arith, start-low, falls-low t (st .k) (st .falls))
+
+    pub sums-fit : Fits w64 (1440 * m .days + (m .start + x))
+    sums-fit = let st = stands t r e m q in omega (arith, start-low, days-most, falls-low t (st .k) (st .falls))
+
+-- ---- date_of
+pub date-on : (t : ℕ) (m : Month) → Stands t m → paperDated (dated.On (record { year = m .year; month = m .month; stamp = stampAfter (t - m .start) })) ≡ dateOf t
+date-on t m st = rw (st .year, st .month, st .start) (sym (date-is (st .k) t (st .falls)))
+
+pub date-none : (t : ℕ) → monthOf t ≡ none → paperDated dated.Nothing ≡ dateOf t
+unfolding dateOf
+date-none t q = rw q
+
+-- ---- minute_of
+module _ (d : Date) (a b : Bool) (n : ℕ) (ea : a ≡ isMonth (d .year) (d .month)) (eb : b ≡ isTime (d .stamp)) (en : n ≡ monthLength (d .year) (d .month)) where
+  minute-test : a && b && leb (d .stamp .day) n ≡ isMonth (d .year) (d .month) && isTime (d .stamp) && dayExists (monthNumber (d .year) (d .month)) (d .stamp)
+  minute-test =
+      by (isMonth (d .year) (d .month))
+      (λ h.
+      let k = month-true (d .year) (d .month) h in
+      rw (ea, eb, en, ← days-of (monthNumber (d .year) (d .month)) (d .year) (d .month) (omega (arith, k .from, k .first, k .last)) (omega (arith, k .first, k .last))))
+      (λ h. rw (ea, h))
+
+  pub minute-none : (a && b && leb (d .stamp .day) n) ≡ false → paperMoment moment.Nothing ≡ minuteOf d
+  unfolding minuteOf
+  minute-none h = rw (← minute-test, h)
+
+  module _ (h : (a && b && leb (d .stamp .day) n) ≡ true) where
+    pub minute-month : InYear (d .year) (d .month)
+    minute-month =
+        let k = month-true (d .year) (d .month) (sym ea ∙ and-left a b (and-left (a && b) (leb (d .stamp .day) n) h)) in
+        record { from = k .from; to = omega (arith, k .known, k .first); first = k .first; last = k .last }
+
+    pub minute-time : Time (d .stamp)
+    minute-time = time-true (d .stamp) (sym eb ∙ and-right a b (and-left (a && b) (leb (d .stamp .day) n) h))
+
+    pub minute-here : (start after : ℕ) → start ≡ startOf (monthNumber (d .year) (d .month)) → after ≡ (d .stamp .day - 1) * 1440 + d .stamp .hour * 60 + d .stamp .minute
+        → paperMoment (moment.At (start + after)) ≡ minuteOf d
+    unfolding minuteOf minuteIn
+    minute-here start after e f = rw (← minute-test, h, e, f)
+
+-- ---- purge_of
+pub purge-none : (issue : ℕ) (s : Stamp) → monthOf issue ≡ none → paperMoment moment.Nothing ≡ purgeOf issue s
+unfolding purgeOf
+purge-none issue s q = rw q
+
+pub usable-time : (s : Stamp) (u y : Bool) → u ≡ isTime s → not (y && u) ≡ false → Time s
+usable-time s u y e h = time-true s (sym e ∙ and-right y u (not-false (y && u) h))
+
+-- an issue of the years up to 2099
+year-test : (issue : ℕ) (m : Month) (st : Stands issue m) → leb (m .year) 2099 ≡ ltb (st .k) issueMonths
+year-test issue m st =
+    same-test (leb (m .year) 2099) (ltb (st .k) issueMonths)
+    (λ h. lt-ltb (st .k) issueMonths (omega (arith, leb-true (m .year) 2099 h, st .year)))
+    (λ h. le-leb (m .year) 2099 (omega (arith, ltb-true (st .k) issueMonths h, st .year)))
+
+next-days : (issue : ℕ) (m : Month) (st : Stands issue m) (n : ℕ) → n ≡ daysIn (suc (monthNumber (m .year) (m .month))) → n ≡ daysIn (suc (st .k))
+next-days issue m st n e =
+    let same : monthNumber (m .year) (m .month) ≡ st .k = omega arith in
+    e ∙ ap (λ (x : ℕ). daysIn (suc x)) same
+
+module _ (issue : ℕ) (s : Stamp) (m : Month) (st : Stands issue m) (u : Bool) (eu : u ≡ isTime s) where
+  pub purge-unusable : not (leb (m .year) 2099 && u) ≡ true → paperMoment moment.Nothing ≡ purgeOf issue s
+  unfolding purgeOf
+  purge-unusable h = rw (st .found-at, ← year-test issue m st, ← eu, not-true (leb (m .year) 2099 && u) h)
+
+  module _ (h : not (leb (m .year) 2099 && u) ≡ false) where
+    usable : (leb (m .year) 2099 && u) ≡ true
+    usable = not-false (leb (m .year) 2099 && u) h
+
+    purge-usable : purgeOf issue s ≡ purgeIn (st .k) issue s
+    unfolding purgeOf
+    purge-usable = rw (st .found-at, ← year-test issue m st, ← eu, usable)
+
+    module _ (after : ℕ) (ea : after ≡ (s .day - 1) * 1440 + s .hour * 60 + s .minute) where
+      here-is : m .start + after ≡ minuteIn (st .k) s
+      unfolding minuteIn
+      here-is = rw (ea, st .start)
+
+      here-test : (leb (s .day) (m .days) && leb issue (m .start + after)) ≡ (dayExists (st .k) s && notBefore issue (minuteIn (st .k) s))
+      here-test = rw (here-is, st .days)
+
+      pub purge-here : (leb (s .day) (m .days) && leb issue (m .start + after)) ≡ true → paperMoment (moment.At (m .start + after)) ≡ purgeOf issue s
+      unfolding purgeIn
+      purge-here t = rw (purge-usable, ← here-test, t, here-is)
+
+      module _ (t : (leb (s .day) (m .days) && leb issue (m .start + after)) ≡ false) (n : ℕ) (en : n ≡ daysIn (suc (monthNumber (m .year) (m .month)))) where
+        pub purge-next : s .day ≤ n → paperMoment (moment.At (1440 * m .days + (m .start + after))) ≡ purgeOf issue s
+        unfolding purgeIn minuteIn
+        purge-next d =
+            rw (purge-usable, ← here-test, t, ← next-days issue m st n en, le-leb (s .day) n d)
+            (ap some (omega (arith, st .start, st .days, start-next (st .k))))
+
+        pub purge-gone : n < s .day → paperMoment moment.Nothing ≡ purgeOf issue s
+        unfolding purgeIn
+        purge-gone d = rw (purge-usable, ← here-test, t, ← next-days issue m st n en, lt-leb (s .day) n d)
+
+-- ---- is_purge
+not-purge : (issue t : ℕ) → ((s : Stamp) → Purges issue s t → ⊥) → false ≡ isPurge issue t
+not-purge issue t never =
+    by (isPurge issue t)
+    (λ y. let p = purge-own issue t y in absurd (never (p .date .stamp) (purge-true issue (p .date .stamp) t (p .given))))
+    (λ n. sym n)
+
+module _ (issue t : ℕ) where
+  pub own-none : monthOf issue ≡ none → false ≡ isPurge issue t
+  own-none q = not-purge issue t (λ s p. omega (arith, month-none issue q, falls-low issue (p .month) (p .issued)))
+
+  pub own-before : t < issue → false ≡ isPurge issue t
+  own-before h = not-purge issue t (λ s p. omega (arith, p .from))
+
+  module _ (m : Month) (st : Stands issue m) where
+    one-month : (s : Stamp) (p : Purges issue s t) → p .month ≡ st .k
+    one-month s p = falls-one issue (p .month) (st .k) (p .issued) (st .falls)
+
+    pub own-late : 2099 < m .year → false ≡ isPurge issue t
+    own-late h = not-purge issue t (λ s p. omega (arith, one-month s p, p .last, st .year))
+
+    module _ (h : m .year ≤ 2099) (i : issue ≤ t) where
+      low : st .k < issueMonths
+      low = omega (arith, st .year)
+
+      under : (s : Stamp) → Time s → purgeOf issue s ≡ purgeIn (st .k) issue s
+      unfolding purgeOf
+      under s f = rw (st .found-at, lt-ltb (st .k) issueMonths low, time-is s f)
+
+      pub own-here : t < m .start + 1440 * m .days → true ≡ isPurge issue t
+      unfolding purgeIn
+      own-here j =
+          let k = st .k in
+          let s = stampAfter (t - startOf k) in
+          let f : Falls t k = record { low = omega (arith, st .falls .low); high = omega (arith, st .start, st .days, start-next k); known = st .falls .known } in
+          let back = after-back k t f in
+          sym (purge-is issue s t (rw (under s (after-time k t f), le-leb (s .day) (daysIn k) (after-day k t f), back, le-leb issue t i)))
+
+      module _ (j : m .start + 1440 * m .days ≤ t) (n : ℕ) (en : n ≡ daysIn (suc (monthNumber (m .year) (m .month)))) where
+        pub own-far : 1440 * n ≤ t - (m .start + 1440 * m .days) → false ≡ isPurge issue t
+        own-far far =
+            let k = st .k in
+            not-purge issue t
+            (λ s p.
+            omega (arith, falls-purge issue s t p .high, start-mono (suc (p .at)) (suc (suc k)) (omega (arith, p .near, one-month s p)), start-next k, start-next (suc k), next-days issue m st n en, st .start, st .days))
+
+        pub own-next : t - (m .start + 1440 * m .days) < 1440 * n
+            → not (leb ((t - (m .start + 1440 * m .days)) / 1440 + 1) (m .days) && leb issue (m .start + (t - (m .start + 1440 * m .days)))) ≡ isPurge issue t
+        unfolding isPurge purgeIn
+        own-next near =
+            let k = st .k in
+            let next : m .start + 1440 * m .days ≡ startOf (suc k) = omega (arith, st .start, st .days, start-next k) in
+            let over = t - startOf (suc k) in
+            let s = stampAfter over in
+            let f : Falls t (suc k) = record { low = omega arith; high = omega (arith, start-next (suc k), next-days issue m st n en); known = omega (arith, low) } in
+            let x = leb (over / 1440 + 1) (daysIn k) && leb issue (startOf k + over) in
+            rw (next, st .days, st .start, date-is (suc k) t f, under s (after-time (suc k) t f), minute-after k over)
+            (by x
+            (λ y. rw y (sym (ne-eqb (startOf k + over) t (λ same. omega (arith, f .low, start-next k, days-low k)))))
+            (λ y. rw (y, le-leb (over / 1440 + 1) (daysIn (suc k)) (after-day (suc k) t f), minute-after (suc k) over) (sym (eq-eqb (startOf (suc k) + over) t (omega (arith, f .low))))))

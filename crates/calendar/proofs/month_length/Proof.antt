@@ -1,0 +1,12 @@
+use Rattle.calendar.proofs.Ways.{length-leap, length-plain, length-most, length-none}
+use borrow.Author.Needs.{needs}
+use Rattle.calendar.proofs.month_length.Statement.{statement}
+use Rattle.calendar.proofs.month_length.Tie as tie
+
+pub month-length-spec : {M : Type 1} → statement M
+month-length-spec = tie.close (tie.spec
+    (λ c. search (length-leap, needs))
+    (λ c. search needs)
+    (λ c. search needs)
+    (λ c. search (length-plain, length-most, needs))
+    (λ c. search (length-none, needs)))

@@ -1,0 +1,91 @@
+-- Document 01, "Time": months, minutes and dates.
+use Prim.Native.Nat.{ℕ, zero, suc, _+_, _-_, _*_, _/_, _%_}
+use mathlib.Core.List.{[], _∷_}
+use mathlib.Core.Bool.{Bool, true, false, cond, _&&_}
+use mathlib.Core.Option.{Option, none, some}
+use lib.ListN.{getD}
+use lib.Dec.{leb, ltb, eqb}
+use Rattle.calendar.specs.declared.Stamp.{Stamp}
+use Rattle.calendar.specs.declared.Date.{Date}
+
+-- ---- months
+-- "In these years every fourth is a leap year." 1972 is the first of them.
+unfoldable pub leap : ℕ → Bool
+leap year = eqb (year % 4) 0
+
+-- The list of month lengths begins with month 1: there is no month 0. February of a leap year stands apart.
+unfoldable pub monthLength : ℕ → ℕ → ℕ
+monthLength year month =
+    cond (eqb month 2 && leap year) 29 (getD (0 ∷ 31 ∷ 28 ∷ 31 ∷ 30 ∷ 31 ∷ 30 ∷ 31 ∷ 31 ∷ 30 ∷ 31 ∷ 30 ∷ 31 ∷ []) month 0)
+
+-- Months are counted as minutes are, from January 1970 on, which is month 0.
+abbrev pub monthNumber : ℕ → ℕ → ℕ
+monthNumber year month = 12 * (year - 1970) + (month - 1)
+
+abbrev pub yearOf : ℕ → ℕ
+yearOf k = 1970 + k / 12
+
+abbrev pub monthOfYear : ℕ → ℕ
+monthOfYear k = k % 12 + 1
+
+unfoldable pub daysIn : ℕ → ℕ
+daysIn k = monthLength (yearOf k) (monthOfYear k)
+
+-- "The caller lends the issue's year (1970..2099) and month."
+unfoldable pub isIssueMonth : ℕ → ℕ → Bool
+isIssueMonth year month = leb 1970 year && leb year 2099 && (leb 1 month && leb month 12)
+
+-- The issue's months, and January 2100, which a December 2099 issue can reach.
+abbrev pub issueMonths : ℕ
+issueMonths = monthNumber 2100 1
+
+abbrev pub allMonths : ℕ
+allMonths = suc issueMonths
+
+-- ---- minutes
+-- "Minutes count from 1970-01-01 0000 UTC": the minute at which month k starts
+unfoldable pub startOf : ℕ → ℕ
+startOf zero = 0
+startOf (suc k) = startOf k + 1440 * daysIn k
+
+-- DDHHMM: "DD 01..31, HH 00..23, MM 00..59"
+unfoldable pub isTime : Stamp → Bool
+isTime s = leb 1 (s .day) && leb (s .day) 31 && leb (s .hour) 23 && leb (s .minute) 59
+
+-- the minute of a DDHHMM in month k
+unfoldable pub minuteIn : ℕ → Stamp → ℕ
+minuteIn k s = startOf k + ((s .day - 1) * 1440 + s .hour * 60 + s .minute)
+
+-- "if that day exists"
+abbrev pub dayExists : ℕ → Stamp → Bool
+dayExists k s = leb (s .day) (daysIn k)
+
+-- ---- dates
+-- the minute of a date of the calendar's months
+unfoldable pub isMonth : ℕ → ℕ → Bool
+isMonth year month = leb 1970 year && (leb 1 month && leb month 12) && ltb (monthNumber year month) allMonths
+
+unfoldable pub minuteOf : Date → Option ℕ
+minuteOf d =
+    cond (isMonth (d .year) (d .month) && isTime (d .stamp) && dayExists (monthNumber (d .year) (d .month)) (d .stamp))
+    (some (minuteIn (monthNumber (d .year) (d .month)) (d .stamp)))
+    none
+
+-- The month that a minute falls in, month after month: the minute stands `left` after the start of month k, and n months are left of the calendar.
+unfoldable pub monthFrom : ℕ → ℕ → ℕ → Option ℕ
+monthFrom zero k left = none
+monthFrom (suc n) k left = elim (ltb left (1440 * daysIn k)) [ true ↦ some k | false ↦ monthFrom n (suc k) (left - 1440 * daysIn k) ]
+
+unfoldable pub monthOf : ℕ → Option ℕ
+monthOf minute = monthFrom allMonths 0 minute
+
+-- a month's DDHHMM, so many minutes after its start
+abbrev pub stampAfter : ℕ → Stamp
+stampAfter left = record { day = left / 1440 + 1; hour = left / 60 % 24; minute = left % 60 }
+
+abbrev pub dateIn : ℕ → Option ℕ → Option Date
+dateIn minute none = none
+dateIn minute (some k) = some (record { year = yearOf k; month = monthOfYear k; stamp = stampAfter (minute - startOf k) })
+
+unfoldable pub dateOf : ℕ → Option Date
+dateOf minute = dateIn minute (monthOf minute)

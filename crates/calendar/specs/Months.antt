@@ -1,0 +1,33 @@
+-- What the code keeps of a month, and what it asks of a month and of a DDHHMM.
+use Prim.Native.Nat.{ℕ, _≤_}
+use mathlib.Core.Option.{Option, none, some}
+use Rattle.calendar.specs.Calendar.{yearOf, monthOfYear, startOf, daysIn}
+use Rattle.calendar.specs.declared.Stamp.{Stamp}
+use Rattle.calendar.specs.declared.Month.{Month}
+use Rattle.calendar.specs.declared.Found.{Found}
+use Rattle.calendar.specs.declared.Found.the-variants as found
+
+abbrev pub monthAt : ℕ → Month
+monthAt k = record { year = yearOf k; month = monthOfYear k; start = startOf k; days = daysIn k }
+
+abbrev pub monthIn : Option ℕ → Option Month
+monthIn none = none
+monthIn (some k) = some (monthAt k)
+
+abbrev pub paperFound : Found → Option Month
+paperFound found.Nothing = none
+paperFound (found.In month) = some month
+
+-- a month of the years 1970..2100
+pub record InYear (year month : ℕ) : Type 0 where
+  pub from : 1970 ≤ year
+  pub to : year ≤ 2100
+  pub first : 1 ≤ month
+  pub last : month ≤ 12
+
+-- the ranges of DDHHMM
+pub record Time (s : Stamp) : Type 0 where
+  pub first : 1 ≤ s .day
+  pub last : s .day ≤ 31
+  pub hours : s .hour ≤ 23
+  pub minutes : s .minute ≤ 59

@@ -1,0 +1,5 @@
+pub mod Tests
+pub mod Tables
+pub mod Lists
+pub mod Pastes
+pub mod Stores

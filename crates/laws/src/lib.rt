@@ -1,0 +1,1 @@
+// Lemmas that several crates cite stand in proofs/. There is no code.

@@ -1,0 +1,237 @@
+-- Where a line ends, seen from a place of the text. Assumes nothing.
+use Prim.Native.Nat.{ℕ, suc, _+_, _-_, _≤_, _<_, suc-le-suc}
+use native.Mathlib.Numerals.{add-one}
+use native.Mathlib.Omega.{arith}
+use mathlib.Core.Path.{_≡_, refl, sym, ap, _∙_, subst}
+use mathlib.Core.List.{List, [], _∷_}
+use mathlib.Core.Bool.{Bool, true, false, cond, _&&_, not, and-true, and-assoc}
+use lib.ListN.{length, getD, take, drop, length-drop, drop-of-length-le, List·getD-eq-default}
+use lib.Seq.{drop-cons, drop-drop}
+use lib.Dec.{eqb, ltb}
+use borrow.Author.Tests.{ne-eqb, eqb-true, ltb-true, ltb-false}
+use Rattle.laws.proofs.Tests.{by, apart}
+use Rattle.lines.specs.Bytes.{lf, word, begins, exactly}
+use Rattle.lines.specs.Lines.{pieces, lineEnd, bodyOf, Line, linesAt, linesFrom}
+use Rattle.lines.specs.Spans.{spanOf, spanAt, part, ending}
+use Rattle.lines.proofs.Strings.{begins-is}
+
+-- ---- a line's end at a place, by the bytes there
+ending-is : (s : List ℕ) (i : ℕ)
+    → ending (drop i s)
+    ≡ cond (eqb (getD s i 0) 10) 1 (cond (eqb (getD s i 0) 13 && eqb (getD s (i + 1) 0) 10) 2 (cond (eqb (getD s i 0) 13 && eqb (getD s (i + 1) 0) 13 && eqb (getD s (i + 1 + 1) 0) 10) 3 0))
+unfolding ending
+ending-is s i =
+    simp (begins-is (word "\n") s i (refl, tt), begins-is (word "\r\n") s i (refl, (refl, tt)), begins-is (word "\r\r\n") s i (refl, (refl, (refl, tt))), and-true, and-assoc)
+
+-- a byte above CR ends no line, and neither does the text's end
+pub no-end : (s : List ℕ) (i a : ℕ) → a ≡ getD s i 0 → 13 < a → 0 ≡ ending (drop i s)
+no-end s i a ea h = simp (ending-is, ← ea, ne-eqb a 10 (omega arith), ne-eqb a 13 (omega arith))
+
+pub past-end : (s : List ℕ) (i : ℕ) → length s ≤ i → 0 ≡ ending (drop i s)
+past-end s i h = simp (ending-is, List·getD-eq-default s 0 h)
+
+module _ (s : List ℕ) (i a b c : ℕ) (ea : a ≡ getD s i 0) (eb : b ≡ getD s (i + 1) 0) (ec : c ≡ getD s (i + 2) 0) where
+  third : c ≡ getD s (i + 1 + 1) 0
+  third = let e : i + 1 + 1 ≡ i + 2 = omega arith in rw e ec
+
+  pub end-1 : a ≡ 10 → 1 ≡ ending (drop i s)
+  end-1 h = simp (ending-is, ← ea, h)
+
+  module _ (h : a ≡ 10 → ⊥) where
+    pub end-2 : (eqb a 13 && eqb b 10) ≡ true → 2 ≡ ending (drop i s)
+    end-2 k = simp (ending-is, ← ea, ← eb, ← third, ne-eqb a 10 h, k)
+
+    module _ (k : (eqb a 13 && eqb b 10) ≡ false) where
+      pub end-3 : (eqb a 13 && eqb b 13 && eqb c 10) ≡ true → 3 ≡ ending (drop i s)
+      end-3 m = simp (ending-is, ← ea, ← eb, ← third, ne-eqb a 10 h, k, m)
+
+      pub end-4 : (eqb a 13 && eqb b 13 && eqb c 10) ≡ false → 0 ≡ ending (drop i s)
+      end-4 m = simp (ending-is, ← ea, ← eb, ← third, ne-eqb a 10 h, k, m)
+
+-- A view: what stands where a line's end does. To prove P of such a list, prove it of the three ends.
+module _ (P : List ℕ → ℕ → Type 0) (one : (t : List ℕ) → P (10 ∷ t) 1) (two : (t : List ℕ) → P (13 ∷ 10 ∷ t) 2) (three : (t : List ℕ) → P (13 ∷ 13 ∷ 10 ∷ t) 3) where
+  at-third : (u : List ℕ) → (ending (13 ∷ 13 ∷ u) ≡ 0 → ⊥) → P (13 ∷ 13 ∷ u) (ending (13 ∷ 13 ∷ u))
+  unfolding ending begins
+  at-third [] h = absurd (h refl)
+  at-third (d ∷ v) h =
+      by (eqb d 10) (λ p. subst (λ (d : ℕ). P (13 ∷ 13 ∷ d ∷ v) (ending (13 ∷ 13 ∷ d ∷ v))) (sym (eqb-true d 10 p)) (three v))
+      λ p. absurd (h (simp p))
+
+  at-second : (u : List ℕ) → (ending (13 ∷ u) ≡ 0 → ⊥) → P (13 ∷ u) (ending (13 ∷ u))
+  unfolding ending begins
+  at-second [] h = absurd (h refl)
+  at-second (d ∷ v) h =
+      by (eqb d 10) (λ p. subst (λ (d : ℕ). P (13 ∷ d ∷ v) (ending (13 ∷ d ∷ v))) (sym (eqb-true d 10 p)) (two v))
+      λ p. by (eqb d 13)
+      (λ q. let e = eqb-true d 13 q in subst (λ (d : ℕ). P (13 ∷ d ∷ v) (ending (13 ∷ d ∷ v))) (sym e) (at-third v (λ z. h (rw e z))))
+      λ q. absurd (h (simp (p, q)))
+
+  pub end-case : (u : List ℕ) → (ending u ≡ 0 → ⊥) → P u (ending u)
+  unfolding ending begins
+  end-case [] h = absurd (h refl)
+  end-case (d ∷ v) h =
+      by (eqb d 10) (λ p. subst (λ (d : ℕ). P (d ∷ v) (ending (d ∷ v))) (sym (eqb-true d 10 p)) (one v))
+      λ p. by (eqb d 13)
+      (λ q. let e = eqb-true d 13 q in subst (λ (d : ℕ). P (d ∷ v) (ending (d ∷ v))) (sym e) (at-second v (λ z. h (rw e z))))
+      λ q. absurd (h (simp (p, q)))
+
+-- ---- the first piece of a text: up to and with its first `sep`
+unfoldable pub firstPiece : ℕ → List ℕ → List ℕ
+firstPiece sep [] = []
+firstPiece sep (b ∷ s) = cond (eqb b sep) (b ∷ []) (b ∷ firstPiece sep s)
+
+pub pieces-first : (sep b : ℕ) (s : List ℕ) → pieces sep (b ∷ s) ≡ firstPiece sep (b ∷ s) ∷ pieces sep (drop (length (firstPiece sep (b ∷ s))) (b ∷ s))
+unfolding pieces firstPiece
+pieces-first sep b [] = by (eqb b sep) (λ p. rw p) (λ p. rw p)
+pieces-first sep b (c ∷ s) = by (eqb b sep) (λ p. rw p) (λ p. rw (p, pieces-first sep c s))
+
+pub first-length : (sep : ℕ) (t : List ℕ) → length (firstPiece sep t) ≤ length t
+unfolding firstPiece
+first-length sep [] = omega arith
+first-length sep (b ∷ t) = by (eqb b sep) (λ p. rw p (omega arith)) (λ p. rw p (suc-le-suc (first-length sep t)))
+
+pub first-at : (sep : ℕ) (s : List ℕ) (i : ℕ) → i < length s
+    → firstPiece sep (drop i s) ≡ cond (eqb (getD s i 0) sep) (getD s i 0 ∷ []) (getD s i 0 ∷ firstPiece sep (drop (i + 1) s))
+unfolding firstPiece
+first-at sep s i h = rw (add-one, drop-cons s i 0 h)
+
+-- its end is the line's end that stands where none of its bytes does
+end-first : (b : ℕ) (s : List ℕ) → eqb b 10 ≡ false → lineEnd (b ∷ firstPiece lf s) ≡ not (eqb (ending (b ∷ s)) 0)
+unfolding lineEnd exactly ending begins firstPiece
+end-first b s p = by (eqb b 13) (λ q. let e = eqb-true b 13 q in rw e (second s)) (λ q. simp (p, q))
+  where
+    third : (u : List ℕ) → lineEnd (13 ∷ 13 ∷ firstPiece lf u) ≡ not (eqb (ending (13 ∷ 13 ∷ u)) 0)
+    third [] = refl
+    third (e ∷ v) = by (eqb e 10) (λ p. simp p) (λ p. simp p)
+
+    second : (u : List ℕ) → lineEnd (13 ∷ firstPiece lf u) ≡ not (eqb (ending (13 ∷ u)) 0)
+    second [] = refl
+    second (d ∷ v) = by (eqb d 10) (λ p. simp p) (λ p. by (eqb d 13) (λ q. let e = eqb-true d 13 q in rw e (third v)) (λ q. simp (p, q)))
+
+body-lf : (s : List ℕ) → bodyOf (firstPiece lf (10 ∷ s)) ≡ cond (eqb (ending (10 ∷ s)) 0) (10 ∷ bodyOf (firstPiece lf s)) []
+unfolding bodyOf firstPiece ending begins lineEnd exactly
+body-lf s = refl
+
+body-first : (b : ℕ) (s : List ℕ) → bodyOf (firstPiece lf (b ∷ s)) ≡ cond (eqb (ending (b ∷ s)) 0) (b ∷ bodyOf (firstPiece lf s)) []
+unfolding bodyOf firstPiece
+body-first b s =
+    by (eqb b 10) (λ p. let e = eqb-true b 10 p in rw e (body-lf s)) (λ p. rw (p, end-first b s p) (turn (eqb (ending (b ∷ s)) 0)))
+  where
+    turn : (t : Bool) → cond (not t) [] (b ∷ bodyOf (firstPiece lf s)) ≡ cond t (b ∷ bodyOf (firstPiece lf s)) []
+    turn true = refl
+    turn false = refl
+
+-- ---- the line that starts at a place: where its bytes end, and where the next line starts
+unfoldable pub endOf : List ℕ → ℕ → ℕ
+endOf s at = at + length (bodyOf (firstPiece lf (drop at s)))
+
+unfoldable pub nextOf : List ℕ → ℕ → ℕ
+nextOf s at = at + length (firstPiece lf (drop at s))
+
+pub body-at : (s : List ℕ) (i : ℕ) → i < length s → bodyOf (firstPiece lf (drop i s)) ≡ cond (eqb (ending (drop i s)) 0) (getD s i 0 ∷ bodyOf (firstPiece lf (drop (i + 1) s))) []
+body-at s i h = rw (add-one, drop-cons s i 0 h) (body-first (getD s i 0) (drop (suc i) s))
+
+first-end : (u : List ℕ) → (ending u ≡ 0 → ⊥) → length (firstPiece lf u) ≡ ending u
+unfolding firstPiece
+first-end u h = end-case (λ t k. length (firstPiece lf t) ≡ k) (λ t. refl) (λ t. refl) (λ t. refl) u h
+
+pub no-lf : (s : List ℕ) (i : ℕ) → ending (drop i s) ≡ 0 → eqb (getD s i 0) 10 ≡ false
+no-lf s i e = by (eqb (getD s i 0) 10) (λ p. let z : _≡_ {A = ℕ} 1 0 = rw (ending-is, p) at e in apart (sym z)) (λ p. p)
+
+module _ (s : List ℕ) (i : ℕ) where
+  pub end-last : length s ≤ i → endOf s i ≡ i
+  unfolding endOf bodyOf firstPiece
+  end-last h = rw (drop-of-length-le s h) (omega arith)
+
+  pub next-last : length s ≤ i → nextOf s i ≡ i
+  unfolding nextOf firstPiece
+  next-last h = rw (drop-of-length-le s h) (omega arith)
+
+  module _ (h : i < length s) (k : ℕ) (e : k ≡ ending (drop i s)) where
+    pub end-here : (k ≡ 0 → ⊥) → endOf s i ≡ i
+    unfolding endOf
+    end-here n = simp (body-at s i h, ← e, ne-eqb k 0 n) (omega arith)
+
+    pub next-here : (k ≡ 0 → ⊥) → nextOf s i ≡ i + k
+    unfolding nextOf
+    next-here n = rw (first-end (drop i s) (λ z. n (e ∙ z)), ← e)
+
+    pub end-on : k ≡ 0 → endOf s i ≡ endOf s (i + 1)
+    unfolding endOf
+    end-on z = simp (body-at s i h, ← e, z) (omega arith)
+
+    pub next-on : k ≡ 0 → nextOf s i ≡ nextOf s (i + 1)
+    unfolding nextOf
+    next-on z = simp (first-at lf s i h, no-lf s i (sym e ∙ z)) (omega arith)
+
+-- ---- a line is a part of the text
+body-length : (t : List ℕ) → length (bodyOf (firstPiece lf t)) ≤ length t
+unfolding bodyOf firstPiece
+body-length [] = omega arith
+body-length (b ∷ t) = rw (body-first b t) (by (eqb (ending (b ∷ t)) 0) (λ p. rw p (suc-le-suc (body-length t))) (λ p. rw p (omega arith)))
+
+body-take : (t : List ℕ) → take (length (bodyOf (firstPiece lf t))) t ≡ bodyOf (firstPiece lf t)
+unfolding bodyOf firstPiece
+body-take [] = refl
+body-take (b ∷ t) = rw (body-first b t) (by (eqb (ending (b ∷ t)) 0) (λ p. rw p (ap (λ (r : List ℕ). b ∷ r) (body-take t))) (λ p. rw p))
+
+pub end-within : (s : List ℕ) (at : ℕ) → at ≤ length s → endOf s at ≤ length s
+unfolding endOf
+end-within s at h = omega (arith, body-length (drop at s), length-drop at s)
+
+pub next-within : (s : List ℕ) (at : ℕ) → at ≤ length s → nextOf s at ≤ length s
+unfolding nextOf
+next-within s at h = omega (arith, first-length lf (drop at s), length-drop at s)
+
+pub next-more : (s : List ℕ) (at : ℕ) → at < length s → at < nextOf s at
+unfolding nextOf
+next-more s at h = rw (first-at lf s at h) (by (eqb (getD s at 0) 10) (λ p. rw p (omega arith)) (λ p. rw p (omega arith)))
+
+pub part-body : (s : List ℕ) (at : ℕ) → part s at (endOf s at) ≡ bodyOf (firstPiece lf (drop at s))
+unfolding endOf
+part-body s at = let e : at + length (bodyOf (firstPiece lf (drop at s))) - at ≡ length (bodyOf (firstPiece lf (drop at s))) = omega arith in rw e (body-take (drop at s))
+
+-- ---- the lines from a place on are the line there and the lines from the next place on
+abbrev pub lineAt : List ℕ → ℕ → Line
+lineAt s at = record { start = at; body = bodyOf (firstPiece lf (drop at s)); next = nextOf s at }
+
+pub lines-step : (s : List ℕ) (at : ℕ) → at < length s → linesFrom at (drop at s) ≡ lineAt s at ∷ linesFrom (nextOf s at) (drop (nextOf s at) s)
+unfolding linesAt nextOf
+lines-step s at h =
+    let d : drop at s ≡ getD s at 0 ∷ drop (suc at) s = drop-cons s at 0 h in
+    let p : pieces lf (drop at s) ≡ firstPiece lf (drop at s) ∷ pieces lf (drop (length (firstPiece lf (drop at s))) (drop at s)) = rw d (pieces-first lf (getD s at 0) (drop (suc at) s)) in
+    ap (linesAt at) p ∙ rw drop-drop
+
+pub lines-last : (s : List ℕ) (at : ℕ) → length s ≤ at → linesFrom at (drop at s) ≡ []
+unfolding linesAt pieces
+lines-last s at h = rw (drop-of-length-le s h)
+
+-- the places of the line there
+pub span-is : (s : List ℕ) (at : ℕ) → spanAt s at ≡ record { start = at; end = endOf s at; next = nextOf s at }
+unfolding spanAt endOf
+span-is s at =
+    by (ltb at (length s)) (λ p. ap (spanOf at) (lines-step s at (ltb-true at (length s) p)))
+    λ p. let h = ltb-false at (length s) p in ap (spanOf at) (lines-last s at h) ∙ rw (next-last s at h, end-last s at h)
+
+-- ---- a search for a line's end: i stands in the line that starts at `at`
+pub record InLine (s : List ℕ) (at i : ℕ) : Type 0 where
+  pub low : at ≤ i
+  pub ends : endOf s at ≡ endOf s i
+  pub goes : nextOf s at ≡ nextOf s i
+
+pub in-start : (s : List ℕ) (at : ℕ) → InLine s at at
+in-start s at = record { low = omega arith; ends = refl; goes = refl }
+
+module _ (s : List ℕ) (at i : ℕ) (v : InLine s at i) where
+  spans : (e n : ℕ) → endOf s i ≡ e → nextOf s i ≡ n → record { start = at; end = e; next = n } ≡ spanAt s at
+  spans e n p q = rw (span-is s at, v .ends, v .goes, p, q)
+
+  pub in-last : length s ≤ i → record { start = at; end = i; next = i } ≡ spanAt s at
+  in-last h = spans i i (end-last s i h) (next-last s i h)
+
+  module _ (h : i < length s) (k : ℕ) (e : k ≡ ending (drop i s)) where
+    pub in-on : k ≡ 0 → InLine s at (i + 1)
+    in-on z = record { low = omega (arith, v .low); ends = v .ends ∙ end-on s i h k e z; goes = v .goes ∙ next-on s i h k e z }
+
+    pub in-here : (k ≡ 0 → ⊥) → record { start = at; end = i; next = i + k } ≡ spanAt s at
+    in-here n = spans i (i + k) (end-here s i h k e n) (next-here s i h k e n)

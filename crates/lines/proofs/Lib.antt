@@ -1,0 +1,4 @@
+pub mod Strings
+pub mod Ends
+pub mod Tests
+pub mod Checks

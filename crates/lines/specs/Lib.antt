@@ -1,0 +1,4 @@
+pub mod Bytes
+pub mod Lines
+pub mod Check
+pub mod Spans

@@ -1,0 +1,25 @@
+-- What the code's types mean.
+use Prim.Native.Nat.{ℕ, _+_, _-_}
+use mathlib.Core.List.{List, [], _∷_}
+use mathlib.Core.Bool.{cond}
+use lib.ListN.{length, take, drop}
+use Rattle.lines.specs.Bytes.{word, begins}
+use Rattle.lines.specs.Lines.{Line, linesFrom}
+use Rattle.lines.specs.declared.Span.{Span}
+
+-- the places of the first of these lines; where there is none, of the empty line at the text's end
+abbrev pub spanOf : ℕ → List Line → Span
+spanOf at [] = record { start = at; end = at; next = at }
+spanOf at (l ∷ ls) = record { start = l .start; end = l .start + length (l .body); next = l .next }
+
+-- the line of the text that starts at `at`
+unfoldable pub spanAt : List ℕ → ℕ → Span
+spanAt text at = spanOf at (linesFrom at (drop at text))
+
+-- the bytes from one place up to another, as far as the text has them
+abbrev pub part : List ℕ → ℕ → ℕ → List ℕ
+part text from to = take (to - from) (drop from text)
+
+-- how many bytes the line's end at the front of s has: LF, CR LF or CR CR LF; 0 where none stands there
+unfoldable pub ending : List ℕ → ℕ
+ending s = cond (begins (word "\n") s) 1 (cond (begins (word "\r\n") s) 2 (cond (begins (word "\r\r\n") s) 3 0))

@@ -1,0 +1,203 @@
+// The lines of a text, by places: document 01, "Text and lines".
+ghost use mathlib.Core.Path.{_≡_};
+ghost use Prim.Native.Nat.{_≤_};
+ghost use lib.ListN.{getD, drop};
+ghost use Rattle.refusal.specs.Numbers.{wrongText};
+ghost use Rattle.refusal.specs.Answer.{refusalFor, paperVerdict};
+ghost use Rattle.lines.specs.Bytes.{between, capital, digit, literally, begins};
+ghost use Rattle.lines.specs.Lines.{blank, isEnd, opens};
+ghost use Rattle.lines.specs.Check.{checkText};
+ghost use Rattle.lines.specs.Spans.{spanAt, part, ending};
+use refusal::Refusal;
+use refusal::Verdict;
+
+// A line's places: its bytes are start..end, and the next line starts at next.
+pub struct Span {
+    pub start: usize,
+    pub end: usize,
+    pub next: usize,
+}
+
+pub fn capital(b: u8) -> bool
+    ensures { λ r. ⌜ r ≡ capital b ⌝ }
+{
+    (65 <= b) & (b <= 90)
+}
+
+pub fn digit(b: u8) -> bool
+    ensures { λ r. ⌜ r ≡ digit b ⌝ }
+{
+    (48 <= b) & (b <= 57)
+}
+
+fn printable(b: u8) -> bool
+    ensures { λ r. ⌜ r ≡ between 32 126 b ⌝ }
+{
+    (32 <= b) & (b <= 126)
+}
+
+// The byte at i, or 0 past the end.
+pub fn byte(s: &[u8], i: usize) -> u8
+    ensures { λ r. ⌜ r ≡ getD (now (s .entry)) i 0 ⌝ }
+{
+    if i < s.len() { s[i] } else { 0 }
+}
+
+// The bytes from one place up to another, as far as the text has them.
+pub fn part(text: &[u8], from: usize, to: usize) -> &[u8]
+    ensures { λ r. ⌜ now r ≡ part (now (text .entry)) from to ⌝ }
+{
+    let n = text.len();
+    if to <= from {
+        return &text[0..0];
+    }
+    if n <= from {
+        return &text[0..0];
+    }
+    if n < to {
+        return &text[from..n];
+    }
+    &text[from..to]
+}
+
+// How many bytes the line's end at i has: LF, CR LF or CR CR LF; 0 where none stands there.
+pub fn ending(text: &[u8], i: usize) -> usize
+    ensures is { λ r. ⌜ r ≡ ending (drop i (now (text .entry))) ⌝ }
+    ensures most { λ r. ⌜ r ≤ 3 ⌝ }
+{
+    let a = byte(text, i);
+    // Most bytes of a text end no line.
+    if 13 < a {
+        return 0;
+    }
+    if text.len() <= i {
+        return 0;
+    }
+    let b = byte(text, i + 1);
+    let c = byte(text, i + 2);
+    if a == 10 {
+        return 1;
+    }
+    if (a == 13) & (b == 10) {
+        return 2;
+    }
+    if (a == 13) & (b == 13) & (c == 10) {
+        return 3;
+    }
+    0
+}
+
+// The line that starts at `at`; past the text's last line an empty one.
+pub fn find_line(text: &[u8], at: usize) -> Span
+    ensures { λ r. ⌜ r ≡ spanAt (now (text .entry)) at ⌝ }
+{
+    let mut i = at;
+    while i < text.len() {
+        let k = ending(text, i);
+        if k != 0 {
+            return Span {
+                start: at,
+                end: i,
+                next: i + k,
+            };
+        }
+        i += 1;
+    }
+    Span {
+        start: at,
+        end: i,
+        next: i,
+    }
+}
+
+pub fn is_blank(line: &[u8]) -> bool
+    ensures { λ r. ⌜ r ≡ blank (now (line .entry)) ⌝ }
+{
+    let mut i = 0;
+    while i < line.len() {
+        if line[i] != 32 {
+            return false;
+        }
+        i += 1;
+    }
+    true
+}
+
+// Whether the line begins with these bytes.
+pub fn begins_with(line: &[u8], word: &[u8]) -> bool
+    ensures { λ r. ⌜ r ≡ begins (literally (now (word .entry))) (now (line .entry)) ⌝ }
+{
+    if line.len() < word.len() {
+        return false;
+    }
+    let mut k = 0;
+    while k < word.len() {
+        if line[k] != word[k] {
+            return false;
+        }
+        k += 1;
+    }
+    true
+}
+
+// Whether the line is exactly `$$`.
+pub fn is_end(line: &[u8]) -> bool
+    ensures { λ r. ⌜ r ≡ isEnd (now (line .entry)) ⌝ }
+{
+    let n = line.len();
+    let begins = begins_with(line, b"$$");
+    (n == 2) & begins
+}
+
+// Whether the line opens a place code block.
+pub fn opens_block(line: &[u8]) -> bool
+    ensures { λ r. ⌜ r ≡ opens (now (line .entry)) ⌝ }
+{
+    let s = byte(line, 0);
+    let t = byte(line, 1);
+    let f = byte(line, 2);
+    let x = byte(line, 3);
+    let y = byte(line, 4);
+    let z = byte(line, 5);
+    let m = byte(line, 6);
+    let prefix = capital(s) & capital(t) & ((f == 67) | (f == 90));
+    let three = digit(x) & digit(y) & digit(z);
+    let all = (x == 65) & (y == 76) & (z == 76);
+    prefix & (three | all) & ((m == 45) | (m == 62))
+}
+
+fn wrong(place: usize) -> Verdict
+    ensures { λ r. ⌜ r ≡ Verdict.Refused (refusalFor wrongText place) ⌝ }
+{
+    Verdict::Refused(Refusal {
+        number: refusal::WRONG_TEXT,
+        place,
+    })
+}
+
+// Refusal 2, in one pass: each byte of the text is looked at once, a line's end as a whole.
+pub fn check_text(text: &[u8]) -> Verdict
+    ensures { λ r. ⌜ paperVerdict r ≡ checkText (now (text .entry)) ⌝ }
+{
+    let mut start: usize = 0;
+    let mut i: usize = 0;
+    while i < text.len() {
+        if printable(text[i]) {
+            if i - start == 132 {
+                return wrong(i);
+            }
+            i += 1;
+        } else {
+            let k = ending(text, i);
+            if k == 0 {
+                return wrong(i);
+            }
+            i += k;
+            start = i;
+        }
+    }
+    if start == i {
+        return Verdict::Accepted;
+    }
+    wrong(i)
+}

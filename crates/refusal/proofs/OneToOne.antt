@@ -1,0 +1,37 @@
+-- The readings of document 01 are one to one: a number names one row of the table, and what the paper says of an answer is said of no other. Assumes nothing.
+use Prim.Native.Nat.{ℕ, _-_}
+use mathlib.Core.Path.{_≡_, refl, sym, ap, _∙_}
+use mathlib.Core.List.{List, [], _∷_}
+use lib.ListN.{getD}
+use Rattle.laws.proofs.Tests.{apart}
+use Rattle.refusal.specs.Numbers.{Reason, numberOf, wrongLength, wrongText, wrongHeading, wrongIdentifier, wrongTime, wrongBlock, noSegment, noEnd, ninthSegment, wrongStorm, tooManyPlaces, notSound, noDraft, allOpen, noSuchSegment, notTaken, takenAlready, twoTaken, segmentFull, onlyPlace, staleDraft, noStep, outputShort, outOfRange}
+use Rattle.refusal.specs.Answer.{paperRefusal, paperVerdict}
+use Rattle.refusal.specs.declared.Refusal.{Refusal}
+use Rattle.refusal.specs.declared.Verdict.{Verdict}
+use Rattle.refusal.specs.declared.Verdict.the-variants.{Accepted, Refused}
+
+-- the table's rows, in order
+rows : List Reason
+rows =
+    wrongLength ∷ wrongText ∷ wrongHeading ∷ wrongIdentifier ∷ wrongTime ∷ wrongBlock ∷ noSegment ∷ noEnd ∷ ninthSegment ∷ wrongStorm ∷ tooManyPlaces ∷ notSound ∷ noDraft ∷ allOpen ∷ noSuchSegment ∷ notTaken ∷ takenAlready ∷ twoTaken ∷ segmentFull ∷ onlyPlace ∷ staleDraft ∷ noStep ∷ outputShort ∷ outOfRange ∷ []
+
+row-back : (r : Reason) → getD rows (numberOf r - 1) wrongLength ≡ r
+unfolding rows
+row-back = elim [ wrongLength ↦ refl | wrongText ↦ refl | wrongHeading ↦ refl | wrongIdentifier ↦ refl | wrongTime ↦ refl | wrongBlock ↦ refl | noSegment ↦ refl | noEnd ↦ refl | ninthSegment ↦ refl | wrongStorm ↦ refl | tooManyPlaces ↦ refl | notSound ↦ refl | noDraft ↦ refl | allOpen ↦ refl | noSuchSegment ↦ refl | notTaken ↦ refl | takenAlready ↦ refl | twoTaken ↦ refl | segmentFull ↦ refl | onlyPlace ↦ refl | staleDraft ↦ refl | noStep ↦ refl | outputShort ↦ refl | outOfRange ↦ refl ]
+
+-- no two rows have one number
+pub number-one : (r s : Reason) → numberOf r ≡ numberOf s → r ≡ s
+number-one r s e = sym (row-back r) ∙ ap (λ (n : ℕ). getD rows (n - 1) wrongLength) e ∙ row-back s
+
+-- nor two refusals one number and place
+pub refusal-one : {A : Type 0} (r s : Refusal) → paperRefusal {A = A} r ≡ paperRefusal s → r ≡ s
+refusal-one r s e =
+    let n : r .number ≡ s .number = cc in
+    let p : r .place ≡ s .place = cc in
+    λ i. record { number = n i; place = p i }
+
+pub verdict-one : (a b : Verdict) → paperVerdict a ≡ paperVerdict b → a ≡ b
+verdict-one Accepted Accepted e = refl
+verdict-one Accepted (Refused r) e = apart cc
+verdict-one (Refused r) Accepted e = apart cc
+verdict-one (Refused r) (Refused s) e = ap Refused (refusal-one r s e)
