@@ -1,0 +1,5 @@
+pub mod Forms
+pub mod Steps
+pub mod Members
+pub mod Bounds
+pub mod Turns

@@ -1,0 +1,66 @@
+-- The reading place, and what the code's types mean.
+use Prim.Native.Nat.{ℕ, _+_, _≤_}
+use mathlib.Core.Path.{_≡_}
+use mathlib.Core.List.{List, [], _∷_}
+use mathlib.Core.Bool.{Bool, true, false, _&&_, not}
+use mathlib.Core.Option.{Option, none, some}
+use lib.ListN.{length, drop}
+use lib.Dec.{eqb, ltb}
+use Rattle.lines.specs.Spans.{part, ending}
+use Rattle.calendar.specs.declared.Stamp.{Stamp}
+use Rattle.codes.specs.Elements.{Element, elementsFrom, said}
+use Rattle.codes.specs.Elements as elements
+use Rattle.codes.specs.declared.Last.{Last}
+use Rattle.codes.specs.declared.Last.the-variants.{Prefix, Nothing}
+use Rattle.codes.specs.declared.Said.{Said}
+use Rattle.codes.specs.declared.Said.the-variants.{Covers, Purge, Wrong}
+use Rattle.codes.specs.declared.Cursor.{Cursor}
+use Rattle.codes.specs.declared.Step.{Step}
+
+-- "under the last prefix of this block", if there is one yet
+abbrev pub lastOf : Last → Option ℕ
+lastOf (Prefix p) = some p
+lastOf Nothing = none
+
+abbrev pub paperSaid : Said → elements.Said
+paperSaid (Covers p n m) = elements.covers p n m
+paperSaid (Purge s) = elements.purge s
+paperSaid Wrong = elements.wrong
+
+-- ---- "the reading place moves forward one element at a time"
+-- the place of the next element, or the text's length
+abbrev pub nextPlace : ℕ → List Element → ℕ
+nextPlace stop [] = stop
+nextPlace stop (e ∷ es) = e .at
+
+-- the purge "ends the block and its line"
+abbrev pub purged : Bool → Stamp → ℕ → ℕ → Step
+purged true s at after = Step.Purge s at
+purged false s at after = Step.Wrong after
+
+-- what an element says, with the reading place moved past it
+abbrev pub stepOver : Element → ℕ → elements.Said → Step
+stepOver e next (elements.covers p n m) = Step.Covers p n m (record { at = next; last = Prefix p })
+stepOver e next (elements.purge s) = purged (e .last) s (e .at) (e .at + length (e .bytes))
+stepOver e next elements.wrong = Step.Wrong (e .at)
+
+abbrev pub stepOf : ℕ → Option ℕ → List Element → Step
+stepOf stop last [] = Step.Wrong stop
+stepOf stop last (e ∷ es) = stepOver e (nextPlace stop es) (said last (e .bytes))
+
+-- ---- the element that starts at a place and runs up to another, and the elements after it
+-- "A line of the block ends after a `-`": the next element stands behind the line's end
+abbrev pub pastEnd : List ℕ → ℕ → ℕ
+pastEnd text after = after + ending (drop after text)
+
+abbrev pub lastOfLine : List ℕ → ℕ → Bool
+lastOfLine text after = not (eqb (ending (drop after text)) 0 && ltb after (length text))
+
+pub record Runs (text : List ℕ) (at after : ℕ) : Type 0 where
+  pub low : at ≤ after
+  pub high : after ≤ length text
+  pub step : elementsFrom at (drop at text)
+      ≡ record { at = at; bytes = part text at after; last = lastOfLine text after } ∷ elementsFrom (pastEnd text after) (drop (pastEnd text after) text)
+
+unfoldable pub stepAt : List ℕ → Cursor → Step
+stepAt text c = stepOf (length text) (lastOf (c .last)) (elementsFrom (c .at) (drop (c .at) text))

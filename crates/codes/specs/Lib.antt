@@ -1,0 +1,5 @@
+pub mod Places
+pub mod Elements
+pub mod Block
+pub mod Written
+pub mod Cursor

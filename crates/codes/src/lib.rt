@@ -1,0 +1,231 @@
+// Place code blocks, read: document 01, "Segments and place code blocks".
+ghost use mathlib.Core.Path.{_≡_};
+ghost use Prim.Native.Nat.{_-_, _≤_, _<_};
+ghost use mathlib.Core.Bool.{cond};
+ghost use lib.Dec.{eqb};
+ghost use lib.ListN.{length, drop};
+ghost use Rattle.lines.specs.Bytes.{begins};
+ghost use Rattle.lines.specs.Lines.{prefixForm, threeDigits};
+ghost use Rattle.codes.specs.Places.{prefixOf, twoOf, threeOf};
+ghost use Rattle.codes.specs.Elements.{numbers, stampOf, time, said};
+ghost use Rattle.codes.specs.Cursor.{lastOf, paperSaid, Runs, stepAt};
+use calendar::Stamp;
+
+// The last prefix of this block.
+pub enum Last {
+    Prefix(u32),
+    Nothing,
+}
+
+// What an element says.
+pub enum Said {
+    // Under a prefix, the numbers from one to another.
+    Covers(u32, u32, u32),
+    Purge(Stamp),
+    Wrong,
+}
+
+// The reading place: it stands at an element's first byte.
+pub struct Cursor {
+    pub at: usize,
+    pub last: Last,
+}
+
+// What the element at the reading place says, and the place moved past it.
+pub enum Step {
+    Covers(u32, u32, u32, Cursor),
+    // DDHHMM, and the place of its element.
+    Purge(Stamp, usize),
+    Wrong(usize),
+}
+
+fn less(b: u8, c: u8) -> u32
+    ensures is { λ r. ⌜ r ≡ b - c ⌝ }
+    ensures most { λ r. ⌜ r ≤ 255 ⌝ }
+{
+    if b < c { 0 } else { (b - c) as u32 }
+}
+
+// The number that three bytes spell, from byte k on.
+fn three(e: &[u8], k: usize) -> u32
+    requires { ⌜ k < 16 ⌝ }
+    ensures { λ r. ⌜ r ≡ threeOf (drop k (now (e .entry))) ⌝ }
+{
+    let x = less(lines::byte(e, k), 48);
+    let y = less(lines::byte(e, k + 1), 48);
+    let z = less(lines::byte(e, k + 2), 48);
+    100 * x + 10 * y + z
+}
+
+// The number that two bytes spell, from byte k on.
+pub fn two(e: &[u8], k: usize) -> usize
+    ensures is { λ r. ⌜ r ≡ twoOf (drop k (now (e .entry))) ⌝ }
+    ensures most { λ r. ⌜ r ≤ 2805 ⌝ }
+{
+    if e.len() <= k {
+        return 0;
+    }
+    let x = less(lines::byte(e, k), 48);
+    let y = less(lines::byte(e, k + 1), 48);
+    wide(10 * x + y)
+}
+
+fn wide(n: u32) -> usize
+    ensures { λ r. ⌜ r ≡ n ⌝ }
+{
+    n as usize
+}
+
+// Whether three digits stand from byte k on.
+fn digits(e: &[u8], k: usize) -> bool
+    requires { ⌜ k < 16 ⌝ }
+    ensures { λ r. ⌜ r ≡ begins threeDigits (drop k (now (e .entry))) ⌝ }
+{
+    let x = lines::byte(e, k);
+    let y = lines::byte(e, k + 1);
+    let z = lines::byte(e, k + 2);
+    lines::digit(x) & lines::digit(y) & lines::digit(z)
+}
+
+// Whether two capitals and C or Z stand in front.
+fn is_full(e: &[u8]) -> bool
+    ensures { λ r. ⌜ r ≡ begins prefixForm (now (e .entry)) ⌝ }
+{
+    let s = lines::byte(e, 0);
+    let t = lines::byte(e, 1);
+    let f = lines::byte(e, 2);
+    lines::capital(s) & lines::capital(t) & ((f == 67) | (f == 90))
+}
+
+// C is 0, Z is 1.
+fn kind(f: u8) -> u32
+    ensures is { λ r. ⌜ r ≡ cond (eqb f 90) 1 0 ⌝ }
+    ensures most { λ r. ⌜ r ≤ 1 ⌝ }
+{
+    if f == 90 { 1 } else { 0 }
+}
+
+fn prefix(e: &[u8]) -> u32
+    ensures { λ r. ⌜ r ≡ prefixOf (now (e .entry)) ⌝ }
+{
+    let s = less(lines::byte(e, 0), 65);
+    let t = less(lines::byte(e, 1), 65);
+    let f = kind(lines::byte(e, 2));
+    (26 * s + t) * 2 + f
+}
+
+// `nnn`, `ALL` or `nnn>mmm`, each with its `-`, under the prefix p.
+fn numbers(e: &[u8], p: u32) -> Said
+    ensures { λ r. ⌜ paperSaid r ≡ numbers p (now (e .entry)) ⌝ }
+{
+    let n = e.len();
+    let some = digits(e, 0);
+    let first = three(e, 0);
+    let sign = lines::byte(e, 3);
+    if (n == 4) & (some & (sign == 45)) {
+        return Said::Covers(p, first, first);
+    }
+    let all = lines::begins_with(e, b"ALL-");
+    if (n == 4) & all {
+        return Said::Covers(p, 0, 0);
+    }
+    let more = digits(e, 4);
+    let last = three(e, 4);
+    let end = lines::byte(e, 7);
+    let range = (n == 8) & (some & (sign == 62) & more & (end == 45));
+    if range & ((1 <= first) & (first < last)) {
+        return Said::Covers(p, first, last);
+    }
+    Said::Wrong
+}
+
+// `DDHHMM`, in its ranges.
+fn time(e: &[u8]) -> Said
+    ensures { λ r. ⌜ paperSaid r ≡ time (stampOf (now (e .entry))) ⌝ }
+{
+    let s = Stamp {
+        day: two(e, 0),
+        hour: two(e, 2),
+        minute: two(e, 4),
+    };
+    if calendar::is_time(s) {
+        return Said::Purge(s);
+    }
+    Said::Wrong
+}
+
+// What the bytes of an element, with its `-`, say under the last prefix.
+fn read_element(e: &[u8], last: Last) -> Said
+    ensures { λ r. ⌜ paperSaid r ≡ said (lastOf last) (now (e .entry)) ⌝ }
+{
+    let n = e.len();
+    let date = digits(e, 0);
+    let hour = digits(e, 3);
+    let end = lines::byte(e, 6);
+    if (n == 7) & (date & hour & (end == 45)) {
+        return time(e);
+    }
+    if is_full(e) {
+        let p = prefix(e);
+        let rest = lines::part(e, 3, n);
+        return numbers(rest, p);
+    }
+    match last {
+        Last::Prefix(p) => numbers(e, p),
+        Last::Nothing => Said::Wrong,
+    }
+}
+
+// The place after the element that starts at `at`: after its `-`, or at its line's end.
+fn element_end(text: &[u8], at: usize) -> usize
+    requires { ⌜ at < length (now text) ⌝ }
+    ensures { λ r. ⌜ Runs (now (text .entry)) at r ⌝ }
+{
+    let mut i = at;
+    while i < text.len() {
+        if text[i] == 45 {
+            return i + 1;
+        }
+        let k = lines::ending(text, i);
+        if k != 0 {
+            return i;
+        }
+        i += 1;
+    }
+    i
+}
+
+impl Cursor {
+    pub fn step(self, text: &[u8]) -> Step
+        ensures { λ r. ⌜ r ≡ stepAt (now (text .entry)) self ⌝ }
+    {
+        let at = self.at;
+        let last = self.last;
+        let n = text.len();
+        if n <= at {
+            return Step::Wrong(n);
+        }
+        let after = element_end(text, at);
+        let skip = lines::ending(text, after);
+        let got = read_element(&text[at..after], last);
+        match got {
+            Said::Covers(p, first, last) => Step::Covers(
+                p,
+                first,
+                last,
+                Cursor {
+                    at: after + skip,
+                    last: Last::Prefix(p),
+                },
+            ),
+            Said::Purge(s) => {
+                if (skip == 0) & (after < n) {
+                    Step::Wrong(after)
+                } else {
+                    Step::Purge(s, at)
+                }
+            }
+            Said::Wrong => Step::Wrong(at),
+        }
+    }
+}

@@ -1,0 +1,3 @@
+pub mod Sets
+pub mod Blocks
+pub mod Contents

@@ -1,0 +1,212 @@
+-- Places by value: searched, moved, filled, and a run put in at once. Assumes nothing.
+use Prim.Native.Nat.{ℕ, zero, suc, _+_, _-_, _≤_, _<_}
+use native.Mathlib.Numerals.{add-one}
+use native.Mathlib.Nat.{add-zero, sub-zero}
+use native.Mathlib.Omega.{arith}
+use mathlib.Core.Path.{_≡_, refl, sym, ap, ap₂, _∙_}
+use mathlib.Core.List.{List, _++_, append-assoc}
+use mathlib.Core.Bool.{true, false}
+use mathlib.Core.Option.{none, some}
+use lib.ListN.{length, getD, take, drop, set, length-set, length-append, length-drop}
+use lib.Seq.{paste, paste-zero, paste-suc, getD-take, length-take-le, take-append-le, take-take, take-all, take-at, drop-at}
+use borrow.Author.Tests.{le-leb, lt-leb}
+use Rattle.laws.proofs.Tests.{by-order, impossible}
+use Rattle.laws.proofs.Lists.{drop-take}
+use Rattle.laws.proofs.Pastes.{up-turn}
+use Rattle.codes.specs.Places.{placesEnd, Ascending, upward, First}
+use Rattle.codes.specs.Block.{insertRun}
+use Rattle.codes.proofs.Members.{from, run-split, below-take, from-drop, run-length, run-ascending}
+use Rattle.reading.specs.Held.{capped, listOf, Good, Grown}
+use Rattle.reading.specs.declared.Places.{Places}
+
+-- ---- the search
+pub record Sought (held : List ℕ) (n p i : ℕ) : Type 0 where
+  pub within : i ≤ n
+  pub low : (j : ℕ) → j < i → getD held j 0 < p
+
+pub sought-start : (held : List ℕ) (n p : ℕ) → Sought held n p 0
+sought-start held n p = record { within = omega arith; low = λ j h. impossible (omega arith) }
+
+module _ (held : List ℕ) (n p i : ℕ) (v : Sought held n p i) (fits : n ≤ length held) where
+  pub sought-on : i < n → getD held i 0 < p → Sought held n p (i + 1)
+  sought-on h k = record { within = omega arith; low = λ j g. by-order j i (λ l. v .low j l) (λ l. let e : j ≡ i = omega arith in rw e k) }
+
+  first : (i < n → p ≤ getD held i 0) → First p (take n held) i
+  first k =
+      let l : length (take n held) ≡ n = length-take-le n held fits in
+      record {
+        within = omega (arith, v .within);
+        low = λ j h. rw (getD-take n held j 0 (omega (arith, v .within))) (v .low j h);
+        high = λ h. rw (getD-take n held i 0 (omega arith)) (k (omega arith));
+      }
+
+  pub sought-here : i < n → p ≤ getD held i 0 → First p (take n held) i
+  sought-here h k = first (λ g. k)
+
+  pub sought-end : n ≤ i → First p (take n held) i
+  sought-end h = first (λ g. impossible (omega arith))
+
+-- ---- moved up
+pub record Moved (held₀ held : List ℕ) (from to m k : ℕ) : Type 0 where
+  pub left : k ≤ m
+  pub long : length held ≡ length held₀
+  pub bytes : held ≡ paste held₀ (to + k) (drop (from + k) held₀) (m - k)
+
+pub moved-start : (held : List ℕ) (from to m : ℕ) → Moved held held from to m m
+moved-start held from to m =
+    let e : 0 ≡ m - m = omega arith in
+    record { left = omega arith; long = refl; bytes = paste-zero held (to + m) (drop (from + m) held) ∙ ap (paste held (to + m) (drop (from + m) held)) e }
+
+module _ (held₀ held : List ℕ) (from to m k : ℕ) (v : Moved held₀ held from to m k) where
+  pub moved-on : from ≤ to → to + m ≤ length held₀ → 0 < k → Moved held₀ (set held (to + (k - 1)) (getD held (from + (k - 1)) 0)) from to m (k - 1)
+  moved-on h g l =
+      let j : ℕ = k - 1 in
+      let n : ℕ = m - k in
+      let p : to + k ≡ to + j + 1 = omega arith in
+      let q : from + k ≡ from + j + 1 = omega arith in
+      let r : n + 1 ≡ m - j = omega (arith, v .left) in
+      record {
+        left = omega (arith, v .left);
+        long = simp length-set (v .long);
+        bytes =
+            ap (λ (z : List ℕ). set z (to + j) (getD z (from + j) 0)) (v .bytes ∙ ap₂ (λ (a b : ℕ). paste held₀ a (drop b held₀) n) p q)
+            ∙ up-turn 0 held₀ from to j n h (omega (arith, v .left))
+            ∙ ap (paste held₀ (to + j) (drop (from + j) held₀)) r;
+      }
+
+  pub moved-done : k ≤ 0 → held ≡ paste held₀ to (drop from held₀) m
+  moved-done h =
+      let e : k ≡ 0 = omega arith in
+      v .bytes ∙ ap (λ (k : ℕ). paste held₀ (to + k) (drop (from + k) held₀) (m - k)) e ∙ simp (add-zero, sub-zero)
+
+-- ---- filled
+upward-length : (p n : ℕ) → length (upward p n) ≡ n
+unfolding upward
+upward-length p zero = refl
+upward-length p (suc n) = ap suc (upward-length (suc p) n)
+
+upward-at : (p n k : ℕ) → k < n → getD (upward p n) k 0 ≡ p + k
+unfolding upward
+upward-at p zero k h = impossible (omega arith)
+upward-at p (suc n) zero h = omega arith
+upward-at p (suc n) (suc k) h = upward-at (suc p) n k (omega arith) ∙ omega arith
+
+pub record Filled (held₀ held : List ℕ) (at n p k q : ℕ) : Type 0 where
+  pub left : k ≤ n
+  pub long : length held ≡ length held₀
+  pub next : q ≡ p + k
+  pub bytes : held ≡ paste held₀ at (upward p n) k
+
+pub filled-start : (held : List ℕ) (at n p : ℕ) → Filled held held at n p 0 p
+filled-start held at n p = record { left = omega arith; long = refl; next = omega arith; bytes = paste-zero held at (upward p n) }
+
+module _ (held₀ held : List ℕ) (at n p k q : ℕ) (v : Filled held₀ held at n p k q) where
+  pub filled-on : at + n ≤ length held₀ → k < n → Filled held₀ (set held (at + k) q) at n p (k + 1) (q + 1)
+  filled-on h l =
+      record {
+        left = omega arith;
+        long = simp length-set (v .long);
+        next = omega (arith, v .next);
+        bytes =
+            ap₂ (λ (z : List ℕ) (x : ℕ). set z (at + k) x) (v .bytes) (v .next ∙ sym (upward-at p n k l))
+            ∙ paste-suc held₀ at (upward p n) k 0 (omega arith) (omega (arith, upward-length p n))
+            ∙ ap (paste held₀ at (upward p n)) (sym (add-one k));
+      }
+
+  pub filled-done : n ≤ k → held ≡ paste held₀ at (upward p n) n
+  filled-done h = let e : k ≡ n = omega (arith, v .left) in v .bytes ∙ rw e
+
+-- ---- a run put in at once
+pub capped-few : (l : List ℕ) → length l ≤ 120 → capped l ≡ some l
+unfolding capped
+capped-few l h = rw (le-leb (length l) 120 h)
+
+pub capped-many : (l : List ℕ) → 120 < length l → capped l ≡ none
+unfolding capped
+capped-many l h = rw (lt-leb (length l) 120 h)
+
+pub grown-over : (t : Places) (p q : ℕ) → Good t → t .over ≡ true → Grown t p q t
+grown-over t p q g o = record { good = g; held = rw o }
+
+module _ (held : List ℕ) (count p q n i j : ℕ) (long : length held ≡ 120) (few : count ≤ 120) (rising : Ascending 0 (take count held)) (pq : p ≤ q) (en : n ≡ q - p)
+    (fi : First p (take count held) i) (fj : First q (take count held) j) where
+  abbrev l : List ℕ
+  l = take count held
+
+  l-long : length l ≡ count
+  l-long = length-take-le count held (omega arith)
+
+  split : insertRun n p l ≡ take i l ++ (upward p n ++ drop j l)
+  split =
+      let e : p + n ≡ q = omega arith in
+      run-split n p rising ∙ rw (e, below-take p l i fi, from-drop q l j fj)
+
+  run-long : length (insertRun n p l) ≡ i + n + (count - j)
+  run-long = rw (split, length-append, length-append, length-take-le i l (fi .within), upward-length, length-drop) (omega (arith, l-long))
+
+  pub apart-enough : j ≤ i + n
+  apart-enough = omega (arith, run-long, run-length n p l, l-long, fj .within)
+
+  -- after both moves the places stand in front
+  module _ (room : i + n + (count - j) ≤ 120) where
+    abbrev moved : List ℕ
+    moved = paste held (i + n) (drop j held) (count - j)
+
+    i-low : i ≤ count
+    i-low = omega (arith, fi .within, l-long)
+
+    j-low : j ≤ count
+    j-low = omega (arith, fj .within, l-long)
+
+    tail : drop (i + n) moved ≡ drop j l ++ drop (i + n + (count - j)) held
+    tail =
+        let e : take (i + n) held ++ (take (count - j) (drop j held) ++ drop (i + n + (count - j)) held) ≡ moved = sym (append-assoc (take (i + n) held) (take (count - j) (drop j held)) (drop (i + n + (count - j)) held)) in
+        ap (drop (i + n)) (sym e)
+        ∙ drop-at (take (i + n) held) (take (count - j) (drop j held) ++ drop (i + n + (count - j)) held) (i + n) (length-take-le (i + n) held (omega arith))
+        ∙ ap (λ (x : List ℕ). x ++ drop (i + n + (count - j)) held) (sym (drop-take j count held j-low (omega (arith, j-low))))
+
+    front : take i moved ≡ take i l
+    front =
+        take-append-le i (take (i + n) held ++ take (count - j) (drop j held)) (drop (i + n + (count - j)) held) (omega (arith, length-append (take (i + n) held) (take (count - j) (drop j held)), length-take-le (i + n) held (omega arith)))
+        ∙ take-append-le i (take (i + n) held) (take (count - j) (drop j held)) (omega (arith, length-take-le (i + n) held (omega arith)))
+        ∙ take-take i (i + n) held (omega arith)
+        ∙ sym (take-take i count held i-low)
+
+    regroup : (a b c d : List ℕ) → a ++ b ++ (c ++ d) ≡ (a ++ (b ++ c)) ++ d
+    regroup a b c d = simp append-assoc
+
+    whole : paste moved i (upward p n) n ≡ insertRun n p l ++ drop (i + n + (count - j)) held
+    whole =
+        ap₂ (λ (x y : List ℕ). x ++ take n (upward p n) ++ y) front tail
+        ∙ ap (λ (x : List ℕ). take i l ++ x ++ (drop j l ++ drop (i + n + (count - j)) held)) (take-all n (upward p n) (omega (arith, upward-length p n)))
+        ∙ regroup (take i l) (upward p n) (drop j l) (drop (i + n + (count - j)) held)
+        ∙ ap (λ (x : List ℕ). x ++ drop (i + n + (count - j)) held) (sym split)
+
+    pub run-in : take (i + n + (count - j)) (paste moved i (upward p n) n) ≡ insertRun n p l
+    run-in = ap (take (i + n + (count - j))) whole ∙ take-at (insertRun n p l) (drop (i + n + (count - j)) held) (i + n + (count - j)) run-long
+
+-- ---- the ways out
+module _ (t : Places) (p q : ℕ) (g : Good t) (o : t .over ≡ false) (pq : p ≤ q) (n i j : ℕ) (en : n ≡ q - p)
+    (fi : First p (listOf t) i) (fj : First q (listOf t) j) where
+  pub with-many : 120 < i + n + (t .count - j) → Grown t p q (record { held = t .held; count = t .count; over = true })
+  with-many h =
+      record {
+        good = record { long = g .long; few = g .few; rising = g .rising };
+        held = rw o (sym (ap (λ (k : ℕ). capped (insertRun k p (listOf t))) (sym en)
+            ∙ capped-many (insertRun n p (listOf t)) (omega (arith, run-long (t .held) (t .count) p q n i j (g .long) (g .few) (g .rising) pq en fi fj))));
+      }
+
+  pub with-few : q ≤ placesEnd → i + n + (t .count - j) ≤ 120 → (moved filled : List ℕ) → length filled ≡ length moved → length moved ≡ length (t .held)
+      → moved ≡ paste (t .held) (i + n) (drop j (t .held)) (t .count - j) → filled ≡ paste moved i (upward p n) n
+      → Grown t p q (record { held = filled; count = i + n + (t .count - j); over = false })
+  with-few e h moved filled lf lm em ef =
+      let same : take (i + n + (t .count - j)) filled ≡ insertRun n p (listOf t) = rw (ef, em) (run-in (t .held) (t .count) p q n i j (g .long) (g .few) (g .rising) pq en fi fj h) in
+      record {
+        good = record { long = lf ∙ lm ∙ g .long; few = h; rising = rw same (run-ascending n p (omega arith) (omega arith) (g .rising)) };
+        held = rw o (ap some same ∙ sym (ap (λ (k : ℕ). capped (insertRun k p (listOf t))) (sym en)
+            ∙ capped-few (insertRun n p (listOf t)) (omega (arith, run-long (t .held) (t .count) p q n i j (g .long) (g .few) (g .rising) pq en fi fj))));
+      }
+
+  -- there are not more places between p and q than numbers
+  pub moves-up : j ≤ i + n
+  moves-up = apart-enough (t .held) (t .count) p q n i j (g .long) (g .few) (g .rising) pq en fi fj

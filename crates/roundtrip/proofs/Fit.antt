@@ -1,0 +1,64 @@
+-- No line of what is written has more than 66 bytes. Assumes nothing.
+use Prim.Native.Nat.{ℕ, _+_, _/_, _≤_}
+use native.Mathlib.Omega.{arith}
+use mathlib.Core.Path.{_≡_, sym, ap, _∙_}
+use mathlib.Core.List.{List, [], _∷_, _++_, append-nil}
+use mathlib.Core.Option.{Option, some}
+use lib.ListN.{length, length-append}
+use borrow.Author.Tests.{leb-true}
+use Rattle.laws.proofs.Tests.{by}
+use Rattle.laws.proofs.Lists.{All, all-nil, all-cons}
+use Rattle.lines.specs.Lines.{pieces, bodyOf, Line, linesAt, linesFrom}
+use Rattle.calendar.specs.declared.Stamp.{Stamp}
+use Rattle.codes.specs.Written.{Run, elementsOf, purgeElement, writtenMost, fits, Wrapped, wrapFrom, wrapped, joined, rendered}
+use Rattle.roundtrip.proofs.Split.{Word, crcrlf, endedLines, body-joined, wrap-words, lines-rendered}
+use Rattle.roundtrip.proofs.Said.{element-short, purge-short}
+
+-- ---- the elements
+abbrev Short : List ℕ → Type 0
+Short e = length e ≤ writtenMost
+
+pub short-spans : (s : Stamp) (last : Option ℕ) (rs : List Run) → All Short (elementsOf last rs ++ (purgeElement s ∷ []))
+unfolding elementsOf
+short-spans s last [] = all-cons (purge-short s) all-nil
+short-spans s last (r ∷ rs) = all-cons (element-short last r) (short-spans s (some (r .first / 1000)) rs)
+
+-- ---- the lines, by elements
+abbrev Fit : List (List ℕ) → Type 0
+Fit l = length (joined l) ≤ writtenMost
+
+record Fits (n : ℕ) (w : Wrapped) : Type 0 where
+  now : n + length (joined (w .line)) ≤ writtenMost
+  later : All Fit (w .lines)
+
+wrap-fits : (n : ℕ) {es : List (List ℕ)} → n ≤ writtenMost → All Short es → Fits n (wrapFrom n es)
+unfolding wrapFrom joined
+wrap-fits n h all-nil = record { now = omega arith; later = all-nil }
+wrap-fits n h (all-cons {x = e} {xs = es} k s) =
+    by (fits n e)
+    (λ q. let r = wrap-fits (n + length e) (leb-true _ _ q) s in
+    rw q (record { now = omega (arith, r .now, length-append e (joined (wrapFrom (n + length e) es .line))); later = r .later }))
+    λ q. let r = wrap-fits (length e) k s in
+    let f : Fit (e ∷ wrapFrom (length e) es .line) = omega (arith, r .now, length-append e (joined (wrapFrom (length e) es .line))) in
+    rw q (record { now = omega arith; later = all-cons f (r .later) })
+
+-- ---- the lines of the text
+abbrev pub FitLine : Line → Type 0
+FitLine l = length (l .body) ≤ writtenMost
+
+ended-fit : (at : ℕ) {ls : List (List (List ℕ))} → All (All Word) ls → All Fit ls → All FitLine (linesAt at (endedLines ls))
+unfolding linesAt endedLines
+ended-fit at all-nil all-nil = all-nil
+ended-fit at (all-cons {x = l} w ws) (all-cons f fs) =
+    let g : length (bodyOf (joined l ++ crcrlf)) ≤ writtenMost = rw (body-joined w) f in
+    all-cons g (ended-fit _ ws fs)
+
+pub rendered-fit : (at : ℕ) {es : List (List ℕ)} → All Word es → All Short es → All FitLine (linesFrom at (rendered (wrapped es)))
+unfolding pieces
+rendered-fit at {es} ws ss =
+    let v = wrap-words 0 ws in
+    let r = wrap-fits 0 (omega arith) ss in
+    let f : Fit (wrapFrom 0 es .line) = omega (arith, r .now) in
+    let e : linesFrom at (rendered (wrapped es)) ≡ linesAt at (endedLines (wrapped es)) =
+    ap (linesFrom at) (sym (append-nil (rendered (wrapped es)))) ∙ lines-rendered at [] ws ∙ ap (linesAt at) (append-nil (endedLines (wrapped es))) in
+    rw e (ended-fit at (all-cons (v .now) (v .later)) (all-cons f (r .later)))

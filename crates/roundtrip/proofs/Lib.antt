@@ -1,0 +1,10 @@
+pub mod Split
+pub mod Said
+pub mod Runs
+pub mod Fit
+pub mod Covered
+pub mod Round
+pub mod Opens
+pub mod Spelled
+pub mod RoundTrip
+pub mod WriteRead

@@ -1,0 +1,109 @@
+-- The laws of reading and writing a block: the round trip, what is addressed, how the written form stands in a text. Assumes nothing.
+use Prim.Native.Nat.{ℕ, _≤_}
+use mathlib.Core.Path.{_≡_, refl, sym, ap, _∙_, subst}
+use mathlib.Core.Bool.{true}
+use mathlib.Core.List.{List, [], _∷_, _++_, List·Memᴰ, List·Memᴰ·not-nil}
+use mathlib.Core.Option.{Option, none, some}
+use mathlib.Core.Logic.{⊎-elim}
+use lib.ListN.{length, drop}
+use lib.Seq.{drop-append-seam}
+use lib.Dec.{leb}
+use borrow.Author.Tests.{le-leb, leb-true}
+use Rattle.laws.proofs.Tests.{by, apart}
+use Rattle.laws.proofs.Lists.{all-at}
+use Rattle.refusal.specs.Numbers.{tooManyPlaces}
+use Rattle.refusal.specs.Answer.{ok, refused}
+use Rattle.lines.specs.Lines.{Line, linesFrom}
+use Rattle.calendar.specs.Calendar.{isTime}
+use Rattle.calendar.specs.Purge.{purgeOf}
+use Rattle.calendar.proofs.Laws.{purge-time}
+use Rattle.calendar.specs.declared.Stamp.{Stamp}
+use Rattle.codes.specs.Places.{Ascending, nil, capacity}
+use Rattle.codes.specs.Elements.{elementsFrom}
+use Rattle.codes.specs.Block.{Read, block, wrongAt, readAt, readBlock, Covered, Content, dated, contentIn, contentAt}
+use Rattle.codes.specs.Written.{runsOf, spansOf, blockElements, written}
+use Rattle.roundtrip.proofs.Runs.{placesOf, spans-places, spans-fine, words-spans}
+use Rattle.roundtrip.proofs.Fit.{short-spans, rendered-fit}
+use Rattle.roundtrip.proofs.Covered.{Told, told, covered-in, in-covered, told-ascending}
+use Rattle.roundtrip.proofs.Opens.{Opening, spans-open}
+use Rattle.roundtrip.proofs.Round.{read-starts, written-starts, written-reads}
+-- Place numbers: the bytes of a place spell its number, and six bytes that a place is read from are the bytes of its number.
+pub use Rattle.roundtrip.proofs.Spelled.{place-number, place-bytes}
+
+-- ---- the round trip
+-- What is written of strictly ascending places and of a DDHHMM in its ranges is read back as just these, wherever it stands and whatever follows it; z is the place of its purge element.
+pub round-trip : (stop at : ℕ) (ps rest : List ℕ) (s : Stamp) → Ascending 0 ps → isTime s ≡ true → (z : ℕ) × (readAt stop at (written ps s ++ rest) ≡ block ps s z)
+round-trip stop at ps rest s a t = read-starts stop (written-starts at ps rest s) (written-reads ps s a t)
+
+-- A segment of at most 120 places is read back from its written block, with the purge minute that its DDHHMM gives under the issue, from any place of a text.
+pub content-round-trip : (front ps rest : List ℕ) (issue t : ℕ) (s : Stamp) → Ascending 0 ps → length ps ≤ capacity → purgeOf issue s ≡ some t
+    → contentAt (front ++ (written ps s ++ rest)) issue (length front) ≡ ok (record { purge = t; places = ps })
+unfolding contentAt readBlock
+content-round-trip front ps rest issue t s a few e =
+    let text : List ℕ = front ++ (written ps s ++ rest) in
+    let r = round-trip (length text) (length front) ps rest s a (purge-time issue s t e) in
+    ap (λ (x : List ℕ). contentIn issue (length front) (readAt (length text) (length front) x)) (drop-append-seam front (written ps s ++ rest))
+    ∙ ap (contentIn issue (length front)) (r .1)
+    ∙ rw (e, le-leb (length ps) capacity few)
+
+-- ---- "A place is addressed exactly if some element covers it"
+-- The places of a block that is read are strictly ascending; each of them is covered by an element before the purge, and each place that such an element covers is among them.
+pub record Addressed (ps : List ℕ) (at : ℕ) (text : List ℕ) : Type 0 where
+  pub ascending : Ascending 0 ps
+  pub only : (q : ℕ) → List·Memᴰ q ps → Covered q none (elementsFrom at text)
+  pub every : (q : ℕ) → Covered q none (elementsFrom at text) → List·Memᴰ q ps
+
+pub covered : (stop at : ℕ) (text ps : List ℕ) (s : Stamp) (z : ℕ) → readAt stop at text ≡ block ps s z → Addressed ps at text
+covered stop at text ps s z e =
+    let t : Told s ps none [] (elementsFrom at text) = told stop z none [] (elementsFrom at text) e in
+    record {
+      ascending = told-ascending tt t nil;
+      only = λ q w. ⊎-elim (λ (v : List·Memᴰ q []). absurd (List·Memᴰ·not-nil v)) (λ (c : Covered q none (elementsFrom at text)). c) (in-covered q t w);
+      every = λ q c. covered-in q t c;
+    }
+
+-- ---- a segment that is read can be written, and is read back from there
+pub record Again (issue : ℕ) (c : Content) : Type 0 where
+  pub ascending : Ascending 0 (c .places)
+  pub few : length (c .places) ≤ capacity
+  pub stamp : Stamp
+  pub time : isTime stamp ≡ true
+  pub gives : purgeOf issue stamp ≡ some (c .purge)
+  pub again : (front rest : List ℕ) → contentAt (front ++ (written (c .places) stamp ++ rest)) issue (length front) ≡ ok c
+
+-- The content of any segment that is accepted is strictly ascending and of at most 120 places, its purge minute has a DDHHMM that gives it, and what is written of both reads back to the same content.
+pub read-again : (text : List ℕ) (issue start : ℕ) (c : Content) → contentAt text issue start ≡ ok c → Again issue c
+unfolding contentAt readBlock
+read-again text issue start c e = read (readBlock text start) refl e
+  where
+    date : (ps : List ℕ) (s : Stamp) (z : ℕ) (o : Option ℕ) → Ascending 0 ps → purgeOf issue s ≡ o → dated start z ps o ≡ ok c → Again issue c
+    date ps s z none a g e = apart cc
+    date ps s z (some t) a g e =
+        by (leb (length ps) capacity)
+        (λ k. let few : length ps ≤ capacity = leb-true (length ps) capacity k in
+        let f : ok (record { purge = t; places = ps }) ≡ ok c = rw k at e in
+        let same : record { purge = t; places = ps } ≡ c = cc in
+        subst (Again issue) same (record {
+          ascending = a;
+          few = few;
+          stamp = s;
+          time = purge-time issue s t g;
+          gives = g;
+          again = λ front rest. content-round-trip front ps rest issue t s a few g;
+        }))
+        λ k. let f : refused tooManyPlaces start ≡ ok c = rw k at e in apart cc
+
+    read : (r : Read) → readBlock text start ≡ r → contentIn issue start r ≡ ok c → Again issue c
+    read (wrongAt place) q e = apart cc
+    read (block ps s z) q e = date ps s z (purgeOf issue s) (covered (length text) start (drop start text) ps s z q .ascending) refl e
+
+-- ---- the written block in a product
+-- What is written of one place or more opens a block, and so does its first line.
+pub written-opens : (at p : ℕ) (ps rest : List ℕ) (s : Stamp) → Ascending 0 (p ∷ ps) → Opening at (written (p ∷ ps) s ++ rest)
+unfolding written blockElements placesOf
+written-opens at p ps rest s a = spans-open at rest s (spans-fine a) (λ e. let q : [] ≡ p ∷ ps = sym (ap placesOf e) ∙ spans-places (p ∷ ps) in apart cc)
+
+-- No line of what is written has more than 66 bytes.
+pub lines-fit : (at : ℕ) (ps : List ℕ) (s : Stamp) (l : Line) → List·Memᴰ l (linesFrom at (written ps s)) → length (l .body) ≤ 66
+unfolding written blockElements
+lines-fit at ps s l m = all-at (rendered-fit at (words-spans s none (spansOf (runsOf ps))) (short-spans s none (spansOf (runsOf ps)))) m

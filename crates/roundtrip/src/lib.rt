@@ -1,0 +1,1 @@
+// The round trip of a block: theorems over the rules of codes. No code.

@@ -1,0 +1,74 @@
+-- One more place, and the end of the block. Assumes nothing.
+use Prim.Native.Nat.{ℕ, suc, _+_, _*_, _/_, _≤_, _<_}
+use native.Mathlib.Omega.{arith}
+use native.Mathlib.Numerals.{add-one}
+use mathlib.Core.Path.{_≡_, sym, ap, _∙_}
+use mathlib.Core.Bool.{Bool, true, false}
+use mathlib.Core.List.{List, [], _∷_, _++_, append-nil}
+use lib.ListN.{length-append}
+use lib.Seq.{sets}
+use Rattle.laws.proofs.Stores.{sets-then}
+use Rattle.lines.specs.Bytes.{bytes}
+use Rattle.calendar.specs.declared.Stamp.{Stamp}
+use Rattle.codes.specs.Places.{placesEnd}
+use Rattle.codes.specs.Written.{joins, parted, runsOf, spansOf, elementsOf, purgeElement}
+use Rattle.codes.specs.Places.{upward}
+use Rattle.writing.specs.Ink.{open-one, inkFrom}
+use Rattle.writing.proofs.Ink.{at-end, at-gap, joins-next, open-next, upward-next, elements-close, parted-few, ink-end}
+use Rattle.writing.specs.Pen.{textOf, Spelled, inkMost, Inked, ahead, Fine, Turned, closing, Closed}
+use Rattle.codes.specs.Cursor.{lastOf}
+use Rattle.writing.specs.declared.Element.{Element}
+use Rattle.codes.specs.declared.Last.the-variants as last
+use Rattle.writing.specs.declared.Pen.{Pen}
+use Rattle.writing.specs.declared.State.{State}
+use Rattle.writing.proofs.Inking.{inked-none, inked-on}
+
+-- the elements of the open run
+abbrev ofRun : State → List (List ℕ)
+ofRun s = elementsOf (lastOf (s .last)) (parted (s .lo) (s .more))
+
+module _ (a : List ℕ) (s : State) (fine : Fine s) (q : ℕ) (h : q < placesEnd) (t : Bool) (e : t ≡ joins (s .lo + s .more) q) where
+  pub turn-join : t ≡ true → Turned a a s (record { pen = s .pen; last = s .last; lo = s .lo; more = s .more + 1 }) q
+  turn-join k =
+      let j : joins (s .lo + s .more) q ≡ true = sym e ∙ k in
+      let n : suc (s .lo + s .more) ≡ q = joins-next (s .lo + s .more) q j in
+      let m : q ≡ s .lo + suc (s .more) = omega arith in
+      record {
+        done = [];
+        inked = inked-none a (s .pen) (fine .low);
+        keeps = λ qs. ap (λ (ps : List ℕ). elementsOf (lastOf (s .last)) (spansOf (runsOf ps)))
+            (rw (m, add-one) (upward-next (s .lo) (suc (s .more)) qs));
+        fine = record { joined = rw add-one (open-next (fine .joined) (rw (← n) at j)); below = omega arith; low = fine .low };
+        few = omega arith;
+      }
+
+  pub turn-gap : t ≡ false → (b : List ℕ) (r : Pen) → Inked a b (s .pen) r (ofRun s)
+      → Turned a b s (record { pen = r; last = last.Prefix (s .lo / 1000); lo = q; more = 0 }) q
+  unfolding upward
+  turn-gap k b r d =
+      record {
+        done = ofRun s;
+        inked = d;
+        keeps = λ qs. elements-close (lastOf (s .last)) (fine .joined) (q ∷ qs) (at-gap (sym e ∙ k));
+        fine = record { joined = open-one; below = omega arith; low = d .low };
+        few = omega (arith, parted-few (lastOf (s .last)) (s .lo) (s .more));
+      }
+
+module _ (a c : List ℕ) (s : State) (r : Pen) (stamp : Stamp) (fine : Fine s) where
+  -- where no place follows, the run and the purge are the last elements
+  closing-is : (w : Inked a c (s .pen) r (ofRun s ++ (purgeElement stamp ∷ []))) → closing s stamp ≡ w .ink ++ bytes "\r\r\n"
+  unfolding runsOf spansOf elementsOf
+  closing-is w =
+      let run : ahead s [] ≡ ofRun s = elements-close (lastOf (s .last)) (fine .joined) [] at-end ∙ append-nil (ofRun s) in
+      ap (λ (es : List (List ℕ)). inkFrom (s .pen .col) (es ++ (purgeElement stamp ∷ []))) run ∙ rw (append-nil, ink-end) at (w .goes [])
+
+  pub closed : (b : List ℕ) (p : Pen) → Inked a b (s .pen) p (ofRun s) → p .pos ≤ s .pen .pos + 2 * inkMost
+      → (e : Element) → Spelled e (purgeElement stamp) → Inked b c p r (textOf e ∷ [])
+      → (d : List ℕ) (k : ℕ) → k ≡ r .pos + 3 → d ≡ sets c (r .pos) (bytes "\r\r\n") → Closed a d s stamp k
+  closed b p f m e es g d k ek ed =
+      let w : Inked a c (s .pen) r (ofRun s ++ (purgeElement stamp ∷ [])) = rw (es .text) at (inked-on f g) in
+      record {
+        end = rw (closing-is w) (omega (arith, w .pos, length-append (w .ink) (bytes "\r\r\n")));
+        bytes = rw (closing-is w) (sets-then a (s .pen .pos) (w .ink) (bytes "\r\r\n") (w .bytes) (w .pos) ed);
+        far = omega (arith, g .far);
+      }

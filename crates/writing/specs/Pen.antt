@@ -1,0 +1,92 @@
+-- What the writer's steps leave: an element's bytes, the elements of a run, the whole block.
+use Prim.Native.Nat.{ℕ, suc, _+_, _*_, _≤_, _<_}
+use mathlib.Core.Path.{_≡_}
+use mathlib.Core.List.{List, [], _∷_, _++_}
+use lib.ListN.{length, take, drop}
+use lib.Seq.{sets}
+use Rattle.calendar.specs.declared.Stamp.{Stamp}
+use Rattle.codes.specs.Places.{placesEnd}
+use Rattle.codes.specs.Written.{Run, runsOf, spansOf, elementsOf, purgeElement, writtenMost}
+use Rattle.codes.specs.Places.{upward}
+use Rattle.writing.specs.Ink.{Open, inkFrom}
+use Rattle.writing.specs.declared.Element.{Element}
+use Rattle.codes.specs.Cursor.{lastOf}
+use Rattle.writing.specs.declared.Pen.{Pen}
+use Rattle.writing.specs.declared.State.{State}
+
+-- ---- an element
+-- as long as `SSFnnn>mmm-`
+abbrev pub elementMost : ℕ
+elementMost = 11
+
+abbrev pub textOf : Element → List ℕ
+textOf e = take (e .len) (e .bytes)
+
+-- t was added to e's bytes
+pub record Grown (e r : Element) (t : List ℕ) : Type 0 where
+  pub len : r .len ≡ e .len + length t
+  pub text : textOf r ≡ textOf e ++ t
+
+-- e holds t
+pub record Spelled (e : Element) (t : List ℕ) : Type 0 where
+  pub most : e .len ≤ elementMost
+  pub text : textOf e ≡ t
+
+-- lo and so many more
+abbrev pub run : ℕ → ℕ → Run
+run lo more = record { first = lo; more = more }
+
+-- ---- elements set in lines
+-- an element, and the end of a line before it
+abbrev pub inkMost : ℕ
+inkMost = elementMost + 3
+
+-- The elements es went to the bytes a and made them b; the pen went from p to r. Whatever elements follow, the text goes on behind the ink.
+pub record Inked (a b : List ℕ) (p r : Pen) (es : List (List ℕ)) : Type 0 where
+  pub ink : List ℕ
+  pub bytes : b ≡ sets a (p .pos) ink
+  pub pos : r .pos ≡ p .pos + length ink
+  pub goes : (fs : List (List ℕ)) → inkFrom (p .col) (es ++ fs) ≡ ink ++ inkFrom (r .col) fs
+  pub far : r .pos ≤ p .pos + inkMost * length es
+  pub low : r .col ≤ writtenMost
+
+-- ---- an open run
+-- the elements that are still to be written: those of the open run and of the places qs after it
+abbrev pub ahead : State → List ℕ → List (List ℕ)
+ahead s qs = elementsOf (lastOf (s .last)) (spansOf (runsOf (upward (s .lo) (suc (s .more)) ++ qs)))
+
+pub record Fine (s : State) : Type 0 where
+  pub joined : Open (s .lo) (s .more)
+  pub below : s .lo + s .more < placesEnd
+  pub low : s .pen .col ≤ writtenMost
+
+-- What one more place leaves: the elements of the run that it closes are written, and the others are still ahead. Each has a place of its own.
+pub record Turned (a b : List ℕ) (s r : State) (q : ℕ) : Type 0 where
+  pub done : List (List ℕ)
+  pub inked : Inked a b (s .pen) (r .pen) done
+  pub keeps : (qs : List ℕ) → ahead s (q ∷ qs) ≡ done ++ ahead r qs
+  pub fine : Fine r
+  pub few : length done + r .more ≤ suc (s .more)
+
+-- the text that is left where no place follows: two elements at most, the purge, and a line's end
+abbrev pub closing : State → Stamp → List ℕ
+closing s stamp = inkFrom (s .pen .col) (ahead s [] ++ (purgeElement stamp ∷ []))
+
+abbrev pub closeMost : ℕ
+closeMost = 3 * inkMost + 3
+
+pub record Closed (a b : List ℕ) (s : State) (stamp : Stamp) (r : ℕ) : Type 0 where
+  pub end : r ≡ s .pen .pos + length (closing s stamp)
+  pub bytes : b ≡ sets a (s .pen .pos) (closing s stamp)
+  pub far : r ≤ s .pen .pos + closeMost
+
+-- ---- the block
+-- 120 places never make more bytes
+abbrev pub blockMost : ℕ
+blockMost = 2048
+
+-- the text stands at the front of the bytes a, "and later bytes stay"
+pub record Composed (a b text : List ℕ) (r : ℕ) : Type 0 where
+  pub long : r ≡ length text
+  pub most : r ≤ blockMost
+  pub bytes : b ≡ text ++ drop (length text) a
