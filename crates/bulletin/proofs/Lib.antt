@@ -1,0 +1,7 @@
+pub mod Seeking
+pub mod Stepping
+pub mod Fronts
+pub mod Tops
+pub mod Reports
+pub mod Views
+pub mod OneToOne

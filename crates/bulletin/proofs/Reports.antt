@@ -1,0 +1,163 @@
+-- The whole bulletin: the order of reading, part after part. Assumes nothing.
+use Prim.Native.Nat.{ℕ, zero, suc}
+use native.Mathlib.Omega.{arith}
+use mathlib.Core.Path.{_≡_, refl, sym, ap, _∙_}
+use mathlib.Core.List.{List, [], _∷_}
+use lib.ListN.{length, take}
+use Rattle.laws.proofs.Tests.{impossible}
+use Rattle.refusal.specs.Numbers.{noSegment}
+use Rattle.refusal.specs.Answer.{Answer, ok, no, refusalFor, andThen, paperRefusal, paperVerdict}
+use Rattle.refusal.specs.declared.Refusal.{Refusal}
+use Rattle.refusal.specs.declared.Verdict.{Verdict}
+use Rattle.refusal.specs.declared.Verdict.the-variants as verdict
+use Rattle.lines.specs.Lines.{Line, blank}
+use Rattle.heading.specs.Paper.{paperHeading}
+use Rattle.heading.specs.Storm.{isOffice}
+use Rattle.heading.specs.declared.Storm.{Storm}
+use Rattle.bulletin.specs.Search.{fromFirst, upToFirst, afterFirst, closes, linesOn}
+use Rattle.bulletin.specs.Mnd.{officeStorm, stormIn}
+use Rattle.bulletin.specs.Segments as segments
+use Rattle.bulletin.specs.Segments.{fromLine3, firstLines, segmentsFrom, most, segmentsOf}
+use Rattle.bulletin.specs.Bulletin as rule
+use Rattle.bulletin.specs.Bulletin.{readBulletin}
+use Rattle.bulletin.specs.Seen.{seenOf, seenFrom, listOf, Sized, ended, paperListed}
+use Rattle.bulletin.specs.Front.{paperStormed, paperStart, checked, Above, topOf, paperTopped}
+use Rattle.bulletin.specs.Report.{reported, reportOf, paperBulletin, someSeen, listedOf, headOf, belowOf}
+use Rattle.bulletin.specs.declared.Segment.{Segment}
+use Rattle.bulletin.specs.declared.Ending.{Ending}
+use Rattle.bulletin.specs.declared.Ending.the-variants as ending
+use Rattle.bulletin.specs.declared.Listed.{Listed}
+use Rattle.bulletin.specs.declared.Stormed.{Stormed}
+use Rattle.bulletin.specs.declared.Stormed.the-variants as stormed
+use Rattle.bulletin.specs.declared.Start.{Start}
+use Rattle.bulletin.specs.declared.Start.the-variants as start
+use Rattle.bulletin.specs.declared.Top.{Top}
+use Rattle.bulletin.specs.declared.Topped.{Topped}
+use Rattle.bulletin.specs.declared.Topped.the-variants as topped
+use Rattle.bulletin.specs.declared.Head.{Head}
+use Rattle.bulletin.specs.declared.Reading.the-variants as reading
+use Rattle.bulletin.specs.declared.Bulletin.{Bulletin}
+
+-- ---- the segments
+some-taken : (stop : ℕ) (h : Head) (n : ℕ) (held : List Segment) → length held ≡ 8 → (n ≡ 0 → ⊥) → someSeen stop h (take n held) ≡ ok (reportOf h (take n held))
+some-taken stop h zero held l n = impossible (n refl)
+some-taken stop h (suc n) [] l k = impossible (omega arith)
+some-taken stop h (suc n) (g ∷ gs) l k = refl
+
+module _ (s : List ℕ) (from : ℕ) (h : Head) (l : Listed) (el : paperListed l ≡ seenFrom most s (h .issue) from) (z : Sized (l .segments)) where
+  listed-is : listedOf s from h ≡ andThen (paperListed l) (someSeen (length s) h)
+  unfolding listedOf
+  listed-is = rw (← el)
+
+  pub listed-refused : (r : Refusal) → l .ending ≡ ending.Refused r → paperBulletin (record { reading = reading.Refused r; segments = l .segments }) ≡ listedOf s from h
+  unfolding andThen
+  listed-refused r q = sym (listed-is ∙ ap (λ (e : Ending). andThen (ended e (l .segments)) (someSeen (length s) h)) q)
+
+  module _ (q : l .ending ≡ ending.Whole) where
+    whole-is : listedOf s from h ≡ someSeen (length s) h (listOf (l .segments))
+    unfolding andThen
+    whole-is = listed-is ∙ ap (λ (e : Ending). andThen (ended e (l .segments)) (someSeen (length s) h)) q
+
+    pub listed-none : l .segments .count ≡ 0 → (b : Bulletin) → paperBulletin b ≡ paperRefusal (refusalFor noSegment (length s)) → paperBulletin b ≡ listedOf s from h
+    listed-none z b e = e ∙ sym (whole-is ∙ rw z)
+
+    pub listed-some : (l .segments .count ≡ 0 → ⊥) → paperBulletin (record { reading = reading.Accepted h; segments = l .segments }) ≡ listedOf s from h
+    listed-some n = sym (whole-is ∙ some-taken (length s) h (l .segments .count) (l .segments .held) (z .long) n)
+
+-- ---- the storm and the first place
+module _ (s : List ℕ) (t : Top) (mnd : ℕ) (em : linesOn s mnd ≡ afterFirst blank (linesOn s (t .third))) (x : Stormed)
+    (ex : paperStormed x ≡ officeStorm (fromFirst isOffice (upToFirst closes (linesOn s mnd)))) where
+  below-is : belowOf s t
+      ≡ andThen (paperStormed x) (λ storm. andThen (fromLine3 (afterFirst closes (linesOn s mnd)) (length s) (linesOn s (t .third))) (λ ls. andThen (seenOf (segmentsFrom most s (t .issue) ls)) (someSeen (length s) (headOf t storm))))
+  unfolding belowOf
+  below-is = rw (ex, em)
+
+  pub below-storm : (r : Refusal) → x ≡ stormed.Refused r → (b : Bulletin) → paperBulletin b ≡ paperRefusal r → paperBulletin b ≡ belowOf s t
+  unfolding andThen
+  below-storm r q b e = e ∙ sym (below-is ∙ rw q)
+
+  module _ (storm : Storm) (q : x ≡ stormed.Right storm) (y : Start)
+      (ey : paperStart s y ≡ fromLine3 (afterFirst closes (linesOn s mnd)) (length s) (linesOn s (t .third))) where
+    placed : belowOf s t ≡ andThen (paperStart s y) (λ ls. andThen (seenOf (segmentsFrom most s (t .issue) ls)) (someSeen (length s) (headOf t storm)))
+    unfolding andThen
+    placed = below-is ∙ ap (λ (k : Stormed). andThen (paperStormed k) (λ storm. andThen (fromLine3 (afterFirst closes (linesOn s mnd)) (length s) (linesOn s (t .third))) (λ ls. andThen (seenOf (segmentsFrom most s (t .issue) ls)) (someSeen (length s) (headOf t storm))))) q ∙ rw (← ey)
+
+    pub below-place : (r : Refusal) → y ≡ start.Refused r → (b : Bulletin) → paperBulletin b ≡ paperRefusal r → paperBulletin b ≡ belowOf s t
+    unfolding andThen
+    below-place r z b e = e ∙ sym (placed ∙ ap (λ (k : Start). andThen (paperStart s k) (λ ls. andThen (seenOf (segmentsFrom most s (t .issue) ls)) (someSeen (length s) (headOf t storm)))) z)
+
+    pub below-listed : (a : ℕ) → y ≡ start.From a → (b : Bulletin) → paperBulletin b ≡ listedOf s a (headOf t storm) → paperBulletin b ≡ belowOf s t
+    unfolding andThen listedOf
+    below-listed a z b e = e ∙ sym (placed ∙ ap (λ (k : Start). andThen (paperStart s k) (λ ls. andThen (seenOf (segmentsFrom most s (t .issue) ls)) (someSeen (length s) (headOf t storm)))) z)
+
+-- ---- the order, cut in three: the text, the top, and what is below
+then-then : {A B C : Type 0} (a : Answer A) (f : A → Answer B) (g : B → Answer C) → andThen (andThen a f) g ≡ andThen a (λ x. andThen (f x) g)
+unfolding andThen
+then-then (ok x) f g = refl
+then-then (no number place) f g = refl
+
+abbrev rest : List ℕ → Above → Answer rule.Bulletin
+rest s a =
+    andThen (officeStorm (fromFirst isOffice (upToFirst closes (afterFirst blank (a .below))))) λ storm.
+    andThen (andThen (fromLine3 (afterFirst closes (afterFirst blank (a .below))) (length s) (a .below)) (λ ls. andThen (segmentsFrom most s (a .issue) ls) (segments.some (length s)))) λ gs.
+    ok (record { heading = a .heading; identifier = a .identifier; issue = a .issue; storm = storm; segments = gs })
+
+then-ok : {A B : Type 0} (x : A) (f : A → Answer B) → andThen (ok x) f ≡ f x
+unfolding andThen
+then-ok x f = refl
+
+order : (s : List ℕ) (year month : ℕ) → readBulletin s year month ≡ andThen (checked s year month) (λ _. andThen (topOf s year month) (rest s))
+unfolding readBulletin checked topOf stormIn segmentsOf firstLines
+order s year month = simp (then-then, then-ok)
+
+-- ---- what is below, as the reader's answer has it
+module _ (stop : ℕ) (t : Top) where
+  abbrev told : Storm → List segments.Segment → Answer rule.Bulletin
+  told storm gs = ok (record { heading = paperHeading (t .heading); identifier = t .identifier; issue = t .issue; storm = storm; segments = gs })
+
+  listed-seen : (storm : Storm) (z : Answer (List segments.Segment)) → reported (andThen (andThen z (segments.some stop)) (told storm)) ≡ andThen (seenOf z) (someSeen stop (headOf t storm))
+  unfolding andThen
+  listed-seen storm (ok []) = refl
+  listed-seen storm (ok (x ∷ xs)) = refl
+  listed-seen storm (no number place) = refl
+
+  placed-seen : (f : List Line → Answer (List segments.Segment)) (storm : Storm) (y : Answer (List Line))
+      → reported (andThen (andThen y (λ ls. andThen (f ls) (segments.some stop))) (told storm)) ≡ andThen y (λ ls. andThen (seenOf (f ls)) (someSeen stop (headOf t storm)))
+  unfolding andThen
+  placed-seen f storm (ok ls) = listed-seen storm (f ls)
+  placed-seen f storm (no number place) = refl
+
+  storm-seen : (f : List Line → Answer (List segments.Segment)) (y : Answer (List Line)) (x : Answer Storm)
+      → reported (andThen x (λ storm. andThen (andThen y (λ ls. andThen (f ls) (segments.some stop))) (told storm)))
+      ≡ andThen x (λ storm. andThen y (λ ls. andThen (seenOf (f ls)) (someSeen stop (headOf t storm))))
+  unfolding andThen
+  storm-seen f y (ok storm) = placed-seen f storm y
+  storm-seen f y (no number place) = refl
+
+abbrev aboveOf : List ℕ → Top → Above
+aboveOf s t = record { heading = paperHeading (t .heading); identifier = t .identifier; issue = t .issue; below = linesOn s (t .third) }
+
+below-seen : (s : List ℕ) (t : Top) → reported (rest s (aboveOf s t)) ≡ belowOf s t
+unfolding belowOf
+below-seen s t = storm-seen (length s) t (segmentsFrom most s (t .issue)) _ _
+
+-- ---- the ways out
+module _ (s : List ℕ) (year month : ℕ) (v : Verdict) (ev : paperVerdict v ≡ checked s year month) where
+  pub read-checked : (r : Refusal) → v ≡ verdict.Refused r → (b : Bulletin) → paperBulletin b ≡ paperRefusal r → paperBulletin b ≡ reported (readBulletin s year month)
+  unfolding andThen
+  read-checked r q b e =
+      let w : readBulletin s year month ≡ paperRefusal r = order s year month ∙ rw (← ev, q) in
+      e ∙ sym (ap reported w)
+
+  module _ (q : v ≡ verdict.Accepted) (x : Topped) (ex : paperTopped s x ≡ topOf s year month) where
+    topped-is : readBulletin s year month ≡ andThen (paperTopped s x) (rest s)
+    unfolding andThen
+    topped-is = order s year month ∙ rw (← ev, q, ex)
+
+    pub read-topped : (r : Refusal) → x ≡ topped.Refused r → (b : Bulletin) → paperBulletin b ≡ paperRefusal r → paperBulletin b ≡ reported (readBulletin s year month)
+    unfolding andThen
+    read-topped r z b e = e ∙ sym (ap reported (topped-is ∙ ap (λ (k : Topped). andThen (paperTopped s k) (rest s)) z))
+
+    pub read-whole : (t : Top) → x ≡ topped.Right t → (b : Bulletin) → paperBulletin b ≡ belowOf s t → paperBulletin b ≡ reported (readBulletin s year month)
+    unfolding andThen
+    read-whole t z b e = e ∙ sym (below-seen s t) ∙ sym (ap reported (topped-is ∙ ap (λ (k : Topped). andThen (paperTopped s k) (rest s)) z))

@@ -1,0 +1,111 @@
+-- The top of a bulletin: lines 1 and 2 and the issue. Assumes nothing.
+use Prim.Native.Nat.{ℕ, _-_, _≤_}
+use native.Mathlib.Omega.{arith}
+use mathlib.Core.Path.{_≡_, sym, ap, _∙_}
+use mathlib.Core.List.{List, []}
+use mathlib.Core.Bool.{Bool, true, false, cond, _&&_}
+use lib.ListN.{length, drop-of-length-le}
+use lib.Dec.{leb}
+use lib.Seq.{take-nil}
+use Rattle.laws.proofs.Tests.{by-order}
+use Rattle.refusal.specs.Numbers.{wrongLength, wrongHeading, wrongIdentifier, wrongTime}
+use Rattle.refusal.specs.Answer.{ok, no, refusalFor, andThen, paperVerdict}
+use Rattle.refusal.specs.declared.Verdict.{Verdict}
+use Rattle.refusal.specs.declared.Verdict.the-variants as verdict
+use Rattle.lines.specs.Bytes.{exactly}
+use Rattle.lines.specs.Lines.{linesOf}
+use Rattle.lines.specs.Check.{checkText}
+use Rattle.lines.specs.Spans.{spanAt, part}
+use Rattle.lines.specs.declared.Span.{Span}
+use Rattle.lines.proofs.Ends.{nextOf, next-last, next-within, lines-step, lines-last}
+use Rattle.calendar.specs.Calendar.{isIssueMonth, minuteOf}
+use Rattle.calendar.specs.Paper.{paperMoment}
+use Rattle.calendar.specs.declared.Moment.{Moment}
+use Rattle.calendar.specs.declared.Moment.the-variants as moment
+use Rattle.heading.specs.Heading.{isHeading, headingOf, isIdentifier}
+use Rattle.heading.specs.Paper.{paperHeaded, paperHeading}
+use Rattle.heading.specs.declared.Heading.{Heading}
+use Rattle.heading.specs.declared.Headed.{Headed}
+use Rattle.heading.specs.declared.Headed.the-variants as headed
+use Rattle.bulletin.specs.Search.{later, linesOn}
+use Rattle.bulletin.specs.Bulletin as rule
+use Rattle.bulletin.specs.Bulletin.{isLength, line1, line2}
+use Rattle.bulletin.specs.Front.{checked, topOf, paperTopped}
+use Rattle.bulletin.specs.declared.Topped.{Topped}
+use Rattle.bulletin.specs.declared.Topped.the-variants as topped
+use Rattle.bulletin.proofs.Seeking.{next-of, body-of}
+
+-- ---- 1, 5, 2
+module _ (s : List ℕ) (year month : ℕ) where
+  pub check-length : (leb 1 (length s) && leb (length s) 16384) ≡ false → (r : Verdict) → r ≡ verdict.Refused (refusalFor wrongLength 0) → paperVerdict r ≡ checked s year month
+  unfolding checked isLength andThen
+  check-length n r e = rw (e, n)
+
+  module _ (y : (leb 1 (length s) && leb (length s) 16384) ≡ true) (t : Bool) (et : t ≡ isIssueMonth year month) where
+    pub check-month : t ≡ false → (r : Verdict) → r ≡ verdict.Refused (refusalFor wrongTime 0) → paperVerdict r ≡ checked s year month
+    unfolding checked isLength andThen
+    check-month n r e = rw (e, y, ← et, n)
+
+    pub check-text : t ≡ true → (r : Verdict) → paperVerdict r ≡ checkText s → paperVerdict r ≡ checked s year month
+    unfolding checked isLength andThen
+    check-text q r e = rw (y, ← et, q) e
+
+-- ---- the lines one by one; past the last there is none, and its bytes are none
+later-is : (s : List ℕ) (at : ℕ) → later (linesOn s at) ≡ linesOn s (nextOf s at)
+later-is s at =
+    by-order at (length s) (λ h. rw (lines-step s at h))
+    (λ h. ap later (lines-last s at h) ∙ sym (ap (linesOn s) (next-last s at h) ∙ lines-last s at h))
+
+no-bytes : (s : List ℕ) (at e : ℕ) → length s ≤ at → part s at e ≡ []
+no-bytes s at e h = rw (drop-of-length-le s h) (take-nil (e - at))
+
+line1-is : (s : List ℕ) (l : Span) → l ≡ spanAt s 0 → (line : List ℕ) → line ≡ part s 0 (l .end) → line1 (linesOf s) ≡ rule.headed (headingOf line)
+unfolding headingOf isHeading exactly
+line1-is s l e line q =
+    by-order 0 (length s) (λ h. rw (lines-step s 0 h, ← body-of s 0 l e line q))
+    (λ h. ap line1 (lines-last s 0 h) ∙ sym (rw (q, no-bytes s 0 (l .end) h)))
+
+module _ (s : List ℕ) (at : ℕ) (low : at ≤ length s) (l : Span) (e : l ≡ spanAt s at) (line : List ℕ) (q : line ≡ part s at (l .end)) where
+  line2-is : line2 (length s) (linesOn s at) ≡ cond (isIdentifier line) (ok at) (no 4 at)
+  unfolding isIdentifier exactly
+  line2-is =
+      by-order at (length s) (λ h. rw (lines-step s at h, ← body-of s at l e line q))
+      (λ h. let z : length s ≡ at = omega arith in rw (lines-last s at h, q, no-bytes s at (l .end) h, z))
+
+-- ---- 3, 4, 5
+module _ (s : List ℕ) (year month : ℕ) (a : Span) (ea : a ≡ spanAt s 0) (line : List ℕ) (el : line ≡ part s 0 (a .end)) (h : Headed) (eh : paperHeaded h ≡ headingOf line) where
+  heading-is : line1 (linesOf s) ≡ rule.headed (paperHeaded h)
+  heading-is = line1-is s a ea line el ∙ rw eh
+
+  pub top-heading : h ≡ headed.Wrong → (r : Topped) → r ≡ topped.Refused (refusalFor wrongHeading 0) → paperTopped s r ≡ topOf s year month
+  unfolding topOf andThen
+  top-heading q r e =
+      let w : line1 (linesOf s) ≡ no 3 0 = heading-is ∙ ap (λ (x : Headed). rule.headed (paperHeaded x)) q in
+      rw (e, w)
+
+  module _ (g : Heading) (q : h ≡ headed.Right g) (b : Span) (eb : b ≡ spanAt s (a .next)) (name : List ℕ) (en : name ≡ part s (a .next) (b .end)) (t : Bool) (et : t ≡ isIdentifier name) where
+    first-line : line1 (linesOf s) ≡ ok (paperHeading g)
+    first-line = heading-is ∙ ap (λ (x : Headed). rule.headed (paperHeaded x)) q
+
+    second-line : line2 (length s) (later (linesOf s)) ≡ cond t (ok (a .next)) (no 4 (a .next))
+    second-line =
+        ap (line2 (length s)) (later-is s 0 ∙ ap (linesOn s) (sym (next-of s 0 a ea)))
+        ∙ line2-is s (a .next) (omega (arith, next-of s 0 a ea, next-within s 0 (omega arith))) b eb name en ∙ rw (← et)
+
+    pub top-identifier : t ≡ false → (r : Topped) → r ≡ topped.Refused (refusalFor wrongIdentifier (a .next)) → paperTopped s r ≡ topOf s year month
+    unfolding topOf andThen
+    top-identifier n r e = rw (e, first-line, second-line, n)
+
+    module _ (y : t ≡ true) (m : Moment) (em : paperMoment m ≡ minuteOf (record { year = year; month = month; stamp = g .stamp })) where
+      pub top-issue : m ≡ moment.Nothing → (r : Topped) → r ≡ topped.Refused (refusalFor wrongTime 0) → paperTopped s r ≡ topOf s year month
+      unfolding topOf andThen
+      top-issue n r e = rw (e, first-line, second-line, y, ← em, n)
+
+      third-lines : later (later (linesOf s)) ≡ linesOn s (b .next)
+      third-lines =
+          ap later (later-is s 0 ∙ ap (linesOn s) (sym (next-of s 0 a ea))) ∙ later-is s (a .next) ∙ ap (linesOn s) (sym (next-of s (a .next) b eb))
+
+      pub top-right : (issue : ℕ) → m ≡ moment.At issue
+          → paperTopped s (topped.Right (record { heading = g; identifier = a .next; issue = issue; third = b .next })) ≡ topOf s year month
+      unfolding topOf andThen
+      top-right issue z = rw (first-line, second-line, y, ← em, z, third-lines)

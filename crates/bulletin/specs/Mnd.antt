@@ -1,0 +1,41 @@
+-- Document 01, "Text and lines": the MND block, its office line and the storm.
+use Prim.Native.Nat.{_+_, _-_}
+use mathlib.Core.List.{List, [], _∷_}
+use lib.ListN.{length}
+use Rattle.refusal.specs.Numbers.{wrongStorm}
+use Rattle.refusal.specs.Answer.{Answer, ok, refused}
+use Rattle.lines.specs.Lines.{Line, blank}
+use Rattle.heading.specs.Storm as storm
+use Rattle.heading.specs.Storm.{isOffice, stormOf}
+use Rattle.heading.specs.declared.Storm.{Storm}
+use Rattle.heading.specs.declared.Storm.the-variants.{None, Found}
+use Rattle.bulletin.specs.Search.{fromFirst, upToFirst, later, afterFirst, closes}
+
+-- "the lines after the first blank line that follows line 2"
+abbrev pub belowBlank : List Line → List Line
+belowBlank lines = afterFirst blank (later (later lines))
+
+-- up to the line that closes the block
+abbrev pub mndLines : List Line → List Line
+mndLines lines = upToFirst closes (belowBlank lines)
+
+-- "after the MND block and the line that closes it"
+abbrev pub pastMnd : List Line → List Line
+pastMnd lines = afterFirst closes (belowBlank lines)
+
+-- "Its first line that begins `NATIONAL WEATHER SERVICE ` or `NWS ` is the office line."
+abbrev pub officeLines : List Line → List Line
+officeLines lines = fromFirst isOffice (mndLines lines)
+
+-- | 10 | storm identifier | its start |
+abbrev pub stormSaid : Line → storm.Said → Answer Storm
+stormSaid l storm.noStorm = ok None
+stormSaid l (storm.storm id) = ok (Found id)
+stormSaid l storm.wrongStorm = refused wrongStorm (l .start + (length (l .body) - 8))
+
+abbrev pub officeStorm : List Line → Answer Storm
+officeStorm [] = ok None
+officeStorm (l ∷ ls) = stormSaid l (stormOf (l .body))
+
+unfoldable pub stormIn : List Line → Answer Storm
+stormIn lines = officeStorm (officeLines lines)

@@ -1,0 +1,63 @@
+-- Document 01, "Segments and place code blocks": the segments of a bulletin.
+use Prim.Native.Nat.{ℕ, zero, suc}
+use mathlib.Core.List.{List, [], _∷_}
+use mathlib.Core.Bool.{cond}
+use lib.ListN.{length}
+use Rattle.refusal.specs.Numbers.{wrongBlock, noSegment, noEnd, ninthSegment}
+use Rattle.refusal.specs.Answer.{Answer, ok, refused, andThen}
+use Rattle.lines.specs.Lines.{Line, blank, isEnd, opens}
+use Rattle.codes.specs.Block.{Content, contentAt, readBlock, lastOf}
+use Rattle.lines.specs.Spans.{spanAt}
+use Rattle.bulletin.specs.Search.{fromFirst, later}
+use Rattle.bulletin.specs.Mnd.{pastMnd}
+
+-- its first byte's place, where its block starts too; the place after its block's last line, and after its `$$` line; and its content
+pub record Segment : Type 0 where
+  pub start : ℕ
+  pub block : ℕ
+  pub past : ℕ
+  pub content : Content
+
+-- the place after the line with the purge of the block that starts at a place: the purge "ends the block and its line"
+abbrev pub pastBlock : List ℕ → ℕ → ℕ
+pastBlock text start = (spanAt text (lastOf (readBlock text start))) .next
+
+-- "A segment runs up to and with the line that is exactly `$$`." 8 at its start where there is none; the next segments stand in the lines after it.
+abbrev pub ended : List ℕ → Line → Content → (List Line → Answer (List Segment)) → List Line → Answer (List Segment)
+ended text l c next [] = refused noEnd (l .start)
+ended text l c next (e ∷ ls) = andThen (next ls) (λ ss. ok (record { start = l .start; block = pastBlock text (l .start); past = e .next; content = c } ∷ ss))
+
+-- in each segment 6, 5 and 11, then 8
+abbrev pub opened : List ℕ → ℕ → (List Line → Answer (List Segment)) → List Line → Answer (List Segment)
+opened text issue next [] = ok []
+opened text issue next (l ∷ ls) = andThen (contentAt text issue (l .start)) (λ c. ended text l c next (fromFirst isEnd (l ∷ ls)))
+
+-- | 9 | a ninth segment | its start |
+abbrev pub ninth : List Line → Answer (List Segment)
+ninth [] = ok []
+ninth (l ∷ ls) = refused ninthSegment (l .start)
+
+-- "Each next segment starts at the next such line after the previous `$$`. Lines between are passed over." At most n more.
+unfoldable pub segmentsFrom : ℕ → List ℕ → ℕ → List Line → Answer (List Segment)
+segmentsFrom zero text issue ls = ninth (fromFirst opens ls)
+segmentsFrom (suc n) text issue ls = opened text issue (segmentsFrom n text issue) (fromFirst opens ls)
+
+-- "If line 3 is not blank it must open the first segment. If it is blank, the first segment starts at the first line that opens a block after the MND block and the
+-- line that closes it." 6 at the start of a line 3 that opens nothing, or 7, also without a line 3.
+abbrev pub fromLine3 : List Line → ℕ → List Line → Answer (List Line)
+fromLine3 past stop [] = refused noSegment stop
+fromLine3 past stop (l ∷ ls) = cond (blank (l .body)) (ok past) (cond (opens (l .body)) (ok (l ∷ ls)) (refused wrongBlock (l .start)))
+
+unfoldable pub firstLines : ℕ → List Line → Answer (List Line)
+firstLines stop lines = fromLine3 (pastMnd lines) stop (later (later lines))
+
+-- "A bulletin has 1 to 8 segments." | 7 | no segment | text length |
+abbrev pub most : ℕ
+most = 8
+
+abbrev pub some : ℕ → List Segment → Answer (List Segment)
+some stop [] = refused noSegment stop
+some stop (s ∷ ss) = ok (s ∷ ss)
+
+unfoldable pub segmentsOf : List ℕ → ℕ → List Line → Answer (List Segment)
+segmentsOf text issue lines = andThen (firstLines (length text) lines) (λ ls. andThen (segmentsFrom most text issue ls) (some (length text)))

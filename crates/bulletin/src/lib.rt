@@ -1,0 +1,472 @@
+// A whole bulletin: document 01, "Text and lines" and "Segments and place code blocks".
+ghost use mathlib.Core.Path.{_≡_};
+use calendar::Date;
+use calendar::Moment;
+use heading::Headed;
+use heading::Heading;
+use heading::Named;
+use heading::Storm;
+use reading::Purge;
+use refusal::Refusal;
+use refusal::Verdict;
+ghost use lib.ListN.{length};
+ghost use Rattle.bulletin.specs.Segments.{most, fromLine3};
+ghost use Rattle.bulletin.specs.Seen.{Stepped, seenFrom, Sized, paperListed};
+ghost use Rattle.bulletin.specs.Search.{fromFirst, upToFirst, afterFirst, testOf, closes, linesOn, foundLines, Inside};
+ghost use Rattle.heading.specs.Storm.{isOffice};
+ghost use Rattle.bulletin.specs.Mnd.{officeStorm};
+ghost use Rattle.bulletin.specs.Front.{paperStormed, paperStart, checked, paperTopped, topOf};
+ghost use Rattle.refusal.specs.Answer.{paperVerdict, paperRefusal, refusalFor};
+ghost use Rattle.refusal.specs.Numbers.{noSuchSegment};
+ghost use Rattle.bulletin.specs.Bulletin.{readBulletin};
+ghost use Rattle.bulletin.specs.View.{viewOf, paperViewed, accepted, partOf};
+ghost use Rattle.bulletin.specs.Report.{paperBulletin, reported, listedOf, belowOf};
+
+// A line's start, or none.
+enum Found {
+    At(usize),
+    Nothing,
+}
+
+// What a search over lines looks for.
+enum Sought {
+    Opening,
+    End,
+    Blank,
+    Close,
+    OfficeOrClose,
+}
+
+fn is_sought(line: &[u8], sought: Sought) -> bool
+    ensures { λ r. ⌜ r ≡ testOf sought (now (line .entry)) ⌝ }
+{
+    match sought {
+        Sought::Opening => lines::opens_block(line),
+        Sought::End => lines::is_end(line),
+        Sought::Blank => lines::is_blank(line),
+        Sought::Close => closes(line),
+        Sought::OfficeOrClose => closes(line) | heading::is_office(line),
+    }
+}
+
+// Whether the line closes the MND block.
+fn closes(line: &[u8]) -> bool
+    ensures { λ r. ⌜ r ≡ closes (now (line .entry)) ⌝ }
+{
+    lines::is_blank(line) | lines::is_end(line)
+}
+
+// The first line from `from` on, where a line starts, that is what is sought.
+fn first(text: &[u8], from: usize, sought: Sought) -> Found
+    ensures is { λ r. ⌜ foundLines (now (text .entry)) r ≡ fromFirst (testOf sought) (linesOn (now (text .entry)) from) ⌝ }
+    ensures inside { λ r. ⌜ Inside (now (text .entry)) from r ⌝ }
+{
+    let mut at = from;
+    let found = 'search: loop {
+        if text.len() <= at {
+            break 'search Found::Nothing;
+        }
+        let l = lines::find_line(text, at);
+        let line = lines::part(text, at, l.end);
+        if is_sought(line, sought) {
+            break 'search Found::At(at);
+        }
+        at = l.next;
+    };
+    found
+}
+
+// A segment: its first byte's place, where its block starts too, the place after its block's last line, the place after its `$$` line, its purge minute and how many
+// places it has.
+pub struct Segment {
+    pub start: usize,
+    pub block: usize,
+    pub past: usize,
+    pub purge: usize,
+    pub count: usize,
+}
+
+pub struct Segments {
+    pub held: [Segment; 8],
+    pub count: usize,
+}
+
+enum Next {
+    One(Segment),
+    Nothing,
+    Refused(Refusal),
+}
+
+enum Ending {
+    Whole,
+    Refused(Refusal),
+}
+
+struct Listed {
+    ending: Ending,
+    segments: Segments,
+}
+
+fn refused(number: usize, place: usize) -> Next
+    ensures { λ r. ⌜ r ≡ Next.Refused (record { number = number; place = place }) ⌝ }
+{
+    Next::Refused(Refusal { number, place })
+}
+
+// The next segment from `from` on, of which at most `left` may still come.
+fn next_segment(text: &[u8], from: usize, issue: usize, left: usize) -> Next
+    ensures { λ r. ⌜ Stepped (now (text .entry)) issue left from r ⌝ }
+{
+    let Found::At(start) = first(text, from, Sought::Opening) else {
+        return Next::Nothing;
+    };
+    if left == 0 {
+        return refused(refusal::NINTH_SEGMENT, start);
+    }
+    let content = reading::read_content(text, start, issue);
+    let places = content.places;
+    let purge = content.purge;
+    let count = places.count;
+    match purge {
+        Purge::Refused(r) => Next::Refused(r),
+        Purge::At(minute) => {
+            let Found::At(end) = first(text, start, Sought::End) else {
+                return refused(refusal::NO_END, start);
+            };
+            let b = lines::find_line(text, content.last);
+            let l = lines::find_line(text, end);
+            Next::One(Segment {
+                start,
+                block: b.next,
+                past: l.next,
+                purge: minute,
+                count,
+            })
+        }
+    }
+}
+
+// The segments from `from` on: at most eight.
+fn read_segments(text: &[u8], from: usize, issue: usize) -> Listed
+    ensures is { λ r. ⌜ paperListed r ≡ seenFrom most (now (text .entry)) issue from ⌝ }
+    ensures sized { λ r. ⌜ Sized (r .segments) ⌝ }
+{
+    let mut held = [Segment {
+        start: 0,
+        block: 0,
+        past: 0,
+        purge: 0,
+        count: 0,
+    }; 8];
+    let mut count = 0;
+    let mut at = from;
+    loop {
+        let next = next_segment(text, at, issue, 8 - count);
+        match next {
+            Next::One(segment) => {
+                held[count] = segment;
+                count += 1;
+                at = segment.past;
+            }
+            Next::Nothing => {
+                let segments = Segments { held, count };
+                return Listed {
+                    ending: Ending::Whole,
+                    segments,
+                };
+            }
+            Next::Refused(r) => {
+                let segments = Segments { held, count };
+                let ending = Ending::Refused(r);
+                return Listed { ending, segments };
+            }
+        }
+    }
+}
+
+// The place after the first line from `from` on that is what is sought, or the text's length.
+fn after_first(text: &[u8], from: usize, sought: Sought) -> usize
+    ensures { λ r. ⌜ linesOn (now (text .entry)) r ≡ afterFirst (testOf sought) (linesOn (now (text .entry)) from) ⌝ }
+{
+    let Found::At(at) = first(text, from, sought) else {
+        return text.len();
+    };
+    let l = lines::find_line(text, at);
+    l.next
+}
+
+enum Stormed {
+    Right(Storm),
+    Refused(Refusal),
+}
+
+// The storm of the MND block whose lines start at `from`.
+fn read_storm(text: &[u8], from: usize) -> Stormed
+    ensures { λ r. ⌜ paperStormed r ≡ officeStorm (fromFirst isOffice (upToFirst closes (linesOn (now (text .entry)) from))) ⌝ }
+{
+    let Found::At(at) = first(text, from, Sought::OfficeOrClose) else {
+        return Stormed::Right(Storm::None);
+    };
+    let l = lines::find_line(text, at);
+    let line = lines::part(text, at, l.end);
+    if closes(line) {
+        return Stormed::Right(Storm::None);
+    }
+    match heading::read_storm(line) {
+        Named::Right(storm) => Stormed::Right(storm),
+        Named::Wrong => Stormed::Refused(Refusal {
+            number: refusal::WRONG_STORM,
+            place: l.end - 8,
+        }),
+    }
+}
+
+enum Start {
+    From(usize),
+    Refused(Refusal),
+}
+
+// Where the segments start: at line 3, or after the MND block, whose lines start at `mnd`.
+fn first_place(text: &[u8], third: usize, mnd: usize) -> Start
+    ensures { λ r. ⌜ paperStart (now (text .entry)) r ≡ fromLine3 (afterFirst closes (linesOn (now (text .entry)) mnd)) (length (now (text .entry))) (linesOn (now (text .entry)) third) ⌝ }
+{
+    let n = text.len();
+    if n <= third {
+        return Start::Refused(Refusal {
+            number: refusal::NO_SEGMENT,
+            place: n,
+        });
+    }
+    let l = lines::find_line(text, third);
+    let line = lines::part(text, third, l.end);
+    if lines::is_blank(line) {
+        return Start::From(after_first(text, mnd, Sought::Close));
+    }
+    if lines::opens_block(line) {
+        return Start::From(third);
+    }
+    Start::Refused(Refusal {
+        number: refusal::WRONG_BLOCK,
+        place: third,
+    })
+}
+
+struct Top {
+    heading: Heading,
+    identifier: usize,
+    issue: usize,
+    third: usize,
+}
+
+enum Topped {
+    Right(Top),
+    Refused(Refusal),
+}
+
+fn wrong(number: usize) -> Verdict
+    ensures { λ r. ⌜ r ≡ Verdict.Refused (record { number = number; place = 0 }) ⌝ }
+{
+    Verdict::Refused(Refusal { number, place: 0 })
+}
+
+// 1, 5 (year, month) and 2.
+fn check(text: &[u8], year: usize, month: usize) -> Verdict
+    ensures { λ r. ⌜ paperVerdict r ≡ checked (now (text .entry)) year month ⌝ }
+{
+    let n = text.len();
+    if (1 <= n) & (n <= 16384) {
+        if calendar::is_issue_month(year, month) {
+            return lines::check_text(text);
+        }
+        return wrong(refusal::WRONG_TIME);
+    }
+    wrong(refusal::WRONG_LENGTH)
+}
+
+fn top_refused(number: usize, place: usize) -> Topped
+    ensures { λ r. ⌜ r ≡ Topped.Refused (record { number = number; place = place }) ⌝ }
+{
+    Topped::Refused(Refusal { number, place })
+}
+
+// Lines 1 and 2 and the issue: 3, 4 and 5.
+fn read_top(text: &[u8], year: usize, month: usize) -> Topped
+    ensures { λ r. ⌜ paperTopped (now (text .entry)) r ≡ topOf (now (text .entry)) year month ⌝ }
+{
+    let one = lines::find_line(text, 0);
+    let line = lines::part(text, 0, one.end);
+    let Headed::Right(heading) = heading::read_heading(line) else {
+        return top_refused(refusal::WRONG_HEADING, 0);
+    };
+    let second = one.next;
+    let two = lines::find_line(text, second);
+    let name = lines::part(text, second, two.end);
+    if heading::is_identifier(name) {
+        let stamp = heading.stamp;
+        let Moment::At(issue) = calendar::minute_of(Date { year, month, stamp }) else {
+            return top_refused(refusal::WRONG_TIME, 0);
+        };
+        return Topped::Right(Top {
+            heading,
+            identifier: second,
+            issue,
+            third: two.next,
+        });
+    }
+    top_refused(refusal::WRONG_IDENTIFIER, second)
+}
+
+// What the lines above the first segment say.
+pub struct Head {
+    pub heading: Heading,
+    pub identifier: usize,
+    pub issue: usize,
+    pub storm: Storm,
+}
+
+pub enum Reading {
+    Accepted(Head),
+    Refused(Refusal),
+}
+
+pub struct Bulletin {
+    pub reading: Reading,
+    pub segments: Segments,
+}
+
+// A refusal, with no segment.
+fn nothing(r: Refusal) -> Bulletin
+    ensures is { λ b. ⌜ paperBulletin b ≡ paperRefusal r ⌝ }
+    ensures sized { λ b. ⌜ Sized (b .segments) ⌝ }
+{
+    let held = [Segment {
+        start: 0,
+        block: 0,
+        past: 0,
+        purge: 0,
+        count: 0,
+    }; 8];
+    let segments = Segments { held, count: 0 };
+    let reading = Reading::Refused(r);
+    Bulletin { reading, segments }
+}
+
+// The segments from `from` on, under a head.
+fn read_listed(text: &[u8], from: usize, head: Head) -> Bulletin
+    ensures is { λ r. ⌜ paperBulletin r ≡ listedOf (now (text .entry)) from head ⌝ }
+    ensures sized { λ r. ⌜ Sized (r .segments) ⌝ }
+{
+    let listed = read_segments(text, from, head.issue);
+    let segments = listed.segments;
+    let ending = listed.ending;
+    match ending {
+        Ending::Refused(r) => {
+            let reading = Reading::Refused(r);
+            Bulletin { reading, segments }
+        }
+        Ending::Whole => {
+            if segments.count == 0 {
+                let place = text.len();
+                let number = refusal::NO_SEGMENT;
+                return nothing(Refusal { number, place });
+            }
+            let reading = Reading::Accepted(head);
+            Bulletin { reading, segments }
+        }
+    }
+}
+
+// The storm and the segments, below the top.
+fn read_below(text: &[u8], top: Top) -> Bulletin
+    ensures is { λ r. ⌜ paperBulletin r ≡ belowOf (now (text .entry)) top ⌝ }
+    ensures sized { λ r. ⌜ Sized (r .segments) ⌝ }
+{
+    let third = top.third;
+    let mnd = after_first(text, third, Sought::Blank);
+    match read_storm(text, mnd) {
+        Stormed::Refused(r) => nothing(r),
+        Stormed::Right(storm) => match first_place(text, third, mnd) {
+            Start::Refused(r) => nothing(r),
+            Start::From(from) => {
+                let heading = top.heading;
+                let head = Head {
+                    heading,
+                    identifier: top.identifier,
+                    issue: top.issue,
+                    storm,
+                };
+                read_listed(text, from, head)
+            }
+        },
+    }
+}
+
+// A whole bulletin, under the year and month of its issue.
+pub fn read(text: &[u8], year: usize, month: usize) -> Bulletin
+    ensures is { λ r. ⌜ paperBulletin r ≡ reported (readBulletin (now (text .entry)) year month) ⌝ }
+    ensures sized { λ r. ⌜ Sized (r .segments) ⌝ }
+{
+    let verdict = check(text, year, month);
+    match verdict {
+        Verdict::Refused(r) => nothing(r),
+        Verdict::Accepted => match read_top(text, year, month) {
+            Topped::Refused(r) => nothing(r),
+            Topped::Right(top) => read_below(text, top),
+        },
+    }
+}
+
+enum Viewed {
+    One(Segment),
+    Refused(Refusal),
+}
+
+fn no_such_segment() -> Viewed
+    ensures { λ r. ⌜ r ≡ Viewed.Refused (refusalFor noSuchSegment 0) ⌝ }
+{
+    let number = refusal::NO_SUCH_SEGMENT;
+    Viewed::Refused(Refusal { number, place: 0 })
+}
+
+// Segment n of the bulletin, counted from 1.
+fn find_segment(text: &[u8], year: usize, month: usize, n: usize) -> Viewed
+    ensures { λ r. ⌜ paperViewed r ≡ viewOf (now (text .entry)) year month n ⌝ }
+{
+    let bulletin = read(text, year, month);
+    let segments = bulletin.segments;
+    let reading = bulletin.reading;
+    match reading {
+        Reading::Refused(r) => Viewed::Refused(r),
+        Reading::Accepted(_) => {
+            if n < 1 {
+                return no_such_segment();
+            }
+            if segments.count < n {
+                return no_such_segment();
+            }
+            let held = segments.held;
+            let i = n - 1;
+            Viewed::One(held[i])
+        }
+    }
+}
+
+// Whether the bulletin has a segment n, or why not.
+pub fn view_answer(text: &[u8], year: usize, month: usize, n: usize) -> Verdict
+    ensures { λ r. ⌜ paperVerdict r ≡ accepted (viewOf (now (text .entry)) year month n) ⌝ }
+{
+    match find_segment(text, year, month, n) {
+        Viewed::One(_) => Verdict::Accepted,
+        Viewed::Refused(r) => Verdict::Refused(r),
+    }
+}
+
+// Segment n as a part of the caller's own text, its `$$` line with it; empty on refusal.
+pub fn view(text: &[u8], year: usize, month: usize, n: usize) -> &[u8]
+    ensures { λ r. ⌜ now r ≡ partOf (viewOf (now (text .entry)) year month n) (now (text .entry)) ⌝ }
+{
+    match find_segment(text, year, month, n) {
+        Viewed::One(segment) => lines::part(text, segment.start, segment.past),
+        Viewed::Refused(_) => lines::part(text, 0, 0),
+    }
+}

@@ -1,0 +1,3 @@
+pub mod Forms
+pub mod Storms
+pub mod OneToOne

@@ -1,0 +1,23 @@
+-- Every row of the table of examples holds of the written rules: one claim, computed. Assumes nothing.
+use lib.Dec.{T}
+use Rattle.refusal.specs.Answer.{andThen}
+use Rattle.lines.specs.Bytes.{begins, exactly}
+use Rattle.lines.specs.Lines.{pieces, lineEnd, bodyOf, linesAt, blank, isEnd, opens}
+use Rattle.calendar.specs.Calendar.{leap, monthLength, daysIn, isIssueMonth, startOf, isTime, minuteIn, isMonth, minuteOf, monthFrom, monthOf, dateOf}
+use Rattle.calendar.specs.Purge.{purgeIn, purgeOf}
+use Rattle.codes.specs.Elements.{elementsAt, elementsOfLines, numbers, time, short, said}
+use Rattle.codes.specs.Block.{insert, insertRun, readFrom, readBlock, contentAt}
+use Rattle.codes.specs.Written.{join, runsOf, spansOf, elementOf, elementsOf, purgeElement, blockElements, wrapFrom, joined, rendered, written}
+use Rattle.writing.specs.Write.{ascends, isSet, blockOf}
+use Rattle.lines.specs.Check.{badByte, longLine, lastEnds, unended, least, textFault, checkText}
+use Rattle.heading.specs.Heading.{isHeading, headingOf, isIdentifier}
+use Rattle.heading.specs.Storm.{isOffice, namesStorm, basinOf, classOf, stormOf}
+use Rattle.bulletin.specs.Search.{fromFirst, upToFirst}
+use Rattle.bulletin.specs.Mnd.{stormIn}
+use Rattle.bulletin.specs.Segments.{segmentsFrom, firstLines, segmentsOf}
+use Rattle.bulletin.specs.Bulletin.{isLength, readBulletin}
+use Rattle.promises.specs.Examples.{sameBytes, all, table}
+
+pub examples : T (all table)
+unfolding sameBytes begins exactly pieces lineEnd bodyOf linesAt leap monthLength daysIn startOf isTime minuteIn isMonth minuteOf monthFrom monthOf dateOf purgeIn purgeOf elementsAt elementsOfLines numbers time short said insert insertRun readFrom readBlock contentAt join runsOf spansOf elementOf elementsOf purgeElement blockElements wrapFrom joined rendered written ascends isSet blockOf blank isEnd opens badByte longLine lastEnds unended least textFault checkText isIssueMonth andThen isHeading headingOf isIdentifier isOffice namesStorm basinOf classOf stormOf fromFirst upToFirst stormIn segmentsFrom firstLines segmentsOf isLength readBulletin
+examples = tt
