@@ -1,0 +1,152 @@
+// The listing of a bulletin: its heading and each segment, or the refusal.
+ghost use Prim.Native.Nat.{_≤_};
+ghost use lib.ListN.{length};
+use bulletin::Head;
+use bulletin::Reading;
+use bulletin::Segment;
+use heading::Basin;
+use heading::Bbb;
+use heading::Storm;
+use heading::StormId;
+use libc::STDOUT_FILENO;
+use refusal::Refusal;
+use writing::Written;
+
+fn say(text: &[u8]) {
+    io::write_all(STDOUT_FILENO, text);
+}
+
+fn say_number(n: usize) {
+    io::print_decimal(STDOUT_FILENO, n as u64);
+}
+
+// The last two digits of a number.
+fn say_two(n: usize) {
+    let text = [b'0' + (n / 10 % 10) as u8, b'0' + (n % 10) as u8];
+    say(&text);
+}
+
+// `R`, the number and the place.
+pub fn say_refusal(r: Refusal) {
+    say(b"R ");
+    say_number(r.number);
+    say(b" ");
+    say_number(r.place);
+    say(b"\n");
+}
+
+fn say_bbb(bbb: Bbb) {
+    match bbb {
+        Bbb::Nothing => say(b"-"),
+        Bbb::Code(a, b, c) => {
+            let text = [a, b, c];
+            say(&text);
+        }
+    }
+}
+
+fn say_basin(basin: Basin) {
+    match basin {
+        Basin::Al => say(b"AL"),
+        Basin::Sl => say(b"SL"),
+        Basin::Ep => say(b"EP"),
+        Basin::Cp => say(b"CP"),
+        Basin::Wp => say(b"WP"),
+    }
+}
+
+fn say_storm(storm: Storm) {
+    match storm {
+        Storm::None => say(b"-"),
+        Storm::Found(id) => {
+            let basin = id.basin;
+            say_basin(basin);
+            say_two(id.number);
+            say_two(id.year / 100);
+            say_two(id.year);
+        }
+    }
+}
+
+// The heading's three fields, BBB or `-`, the identifier, the storm or `-`.
+fn say_head(text: &[u8], head: Head) {
+    let heading = head.heading;
+    let bbb = heading.bbb;
+    let storm = head.storm;
+    let name = lines::find_line(text, head.identifier);
+    say(b"H ");
+    say(lines::part(text, 0, 18));
+    say(b" ");
+    say_bbb(bbb);
+    say(b" ");
+    say(lines::part(text, name.start, name.end));
+    say(b" ");
+    say_storm(storm);
+    say(b"\n");
+}
+
+// Takes the line ends out of the first n bytes, and answers how many bytes are left.
+fn strip(block: &mut [u8], n: usize) -> usize
+    requires { ⌜ n ≤ length (now block) ⌝ }
+    ensures { λ r. ⌜ r ≤ n ⌝ }
+{
+    let mut kept = 0;
+    let mut i = 0;
+    while i < n {
+        let b = block[i];
+        i += 1;
+        if 13 < b {
+            block[kept] = b;
+            kept += 1;
+        }
+    }
+    kept
+}
+
+// A segment's number, purge minute, count and written block without line ends.
+fn say_segment(text: &[u8], issue: usize, number: usize, segment: Segment) {
+    let content = reading::read_content(text, segment.start, issue);
+    let places = content.places;
+    let held = places.held;
+    let count = places.count;
+    let mut block = [0u8; 2048];
+    say(b"S ");
+    say_number(number);
+    say(b" ");
+    say_number(segment.purge);
+    say(b" ");
+    say_number(count);
+    say(b" ");
+    if let Written::Length(n) = writing::write_block(&mut block, &held[0..count], segment.purge) {
+        if n <= 2048 {
+            let kept = strip(&mut block, n);
+            say(&block[0..kept]);
+        }
+    }
+    say(b"\n");
+}
+
+fn say_segments(text: &[u8], issue: usize, held: [Segment; 8], count: usize)
+    requires { ⌜ count ≤ 8 ⌝ }
+{
+    let mut i = 0;
+    while i < count {
+        say_segment(text, issue, i + 1, held[i]);
+        i += 1;
+    }
+}
+
+// The listing of a bulletin, read under a year and a month: nothing is printed before the whole answer is known.
+pub fn list(text: &[u8], year: usize, month: usize) {
+    let bulletin = bulletin::read(text, year, month);
+    let segments = bulletin.segments;
+    let reading = bulletin.reading;
+    match reading {
+        Reading::Refused(r) => say_refusal(r),
+        Reading::Accepted(head) => {
+            say_head(text, head);
+            let held = segments.held;
+            say_segments(text, head.issue, held, segments.count);
+        }
+    }
+}
