@@ -1,9 +1,9 @@
 -- Document 01: a place's number, its prefix, and sets of places.
 use Prim.Native.Nat.{ℕ, zero, suc, _+_, _-_, _*_, _/_, _%_, _≤_, _<_}
 use mathlib.Core.List.{List, [], _∷_, _++_}
-use mathlib.Core.Bool.{cond}
+use mathlib.Core.Bool.{Bool, true, cond, _&&_}
 use lib.ListN.{length, getD}
-use lib.Dec.{eqb}
+use lib.Dec.{eqb, leb, ltb}
 
 -- "A place's number is ((26*s1 + s2)*2 + f)*1000 + n, letters from A = 0, C = 0, Z = 1." The prefix SSF is its first part.
 abbrev pub prefixOf : List ℕ → ℕ
@@ -47,6 +47,15 @@ capacity = 120
 pub data Ascending : ℕ → List ℕ → Type 0 where
   nil : {b : ℕ} → Ascending b []
   cons : {b p : ℕ} {ps : List ℕ} → b ≤ p → p < placesEnd → Ascending (suc p) ps → Ascending b (p ∷ ps)
+
+-- the same as a test
+unfoldable pub ascends : ℕ → List ℕ → Bool
+ascends b [] = true
+ascends b (p ∷ ps) = leb b p && ltb p placesEnd && ascends (suc p) ps
+
+-- the places of a segment: at least one, and at most 120
+unfoldable pub isSet : List ℕ → Bool
+isSet ps = leb 1 (length ps) && leb (length ps) capacity && ascends 0 ps
 
 -- n places from p up
 unfoldable pub upward : ℕ → ℕ → List ℕ

@@ -10,10 +10,10 @@ use Rattle.laws.proofs.Tests.{and-left, and-right}
 use Rattle.refusal.specs.Answer.{ok}
 use Rattle.calendar.specs.Purge.{isPurge}
 use Rattle.calendar.proofs.Laws.{purge-own}
-use Rattle.codes.specs.Places.{placesEnd, capacity, Ascending, nil, cons}
+use Rattle.codes.specs.Places.{placesEnd, capacity, Ascending, nil, cons, ascends, isSet}
 use Rattle.codes.specs.Block.{contentAt}
 use Rattle.codes.specs.Written.{written}
-use Rattle.writing.specs.Write.{ascends, isSet, blockOf}
+use Rattle.writing.specs.Write.{blockOf}
 use Rattle.writing.proofs.Rising.{set-is}
 use Rattle.roundtrip.proofs.RoundTrip.{content-round-trip}
 

@@ -10,8 +10,7 @@ use lib.Seq.{drop-cons}
 use lib.Dec.{leb, ltb}
 use borrow.Author.Tests.{le-leb, lt-leb, lt-ltb, le-ltb, leb-true, ltb-true}
 use Rattle.laws.proofs.Tests.{impossible, and-left, and-right}
-use Rattle.codes.specs.Places.{placesEnd, capacity}
-use Rattle.writing.specs.Write.{ascends, isSet}
+use Rattle.codes.specs.Places.{placesEnd, capacity, ascends, isSet}
 
 -- The answer is that for the places from i on, the first of which is at least `least`.
 pub record Rises (ps : List ℕ) (least i : ℕ) : Type 0 where

@@ -19,7 +19,8 @@ use Rattle.calendar.specs.declared.Dated.{Dated}
 use Rattle.calendar.specs.declared.Dated.the-variants as dated
 use Rattle.calendar.proofs.Laws.{date-time}
 use Rattle.codes.specs.Written.{written}
-use Rattle.writing.specs.Write.{isSet, datedBlock, blockOf, fitting, writeRule, paperWritten, Writes}
+use Rattle.writing.specs.Write.{datedBlock, blockOf, fitting, writeRule, paperWritten, Writes}
+use Rattle.codes.specs.Places.{isSet}
 use Rattle.writing.specs.Pen.{Composed}
 use Rattle.writing.specs.declared.Written.{Written}
 use Rattle.writing.specs.declared.Written.the-variants.{Length, Refused}

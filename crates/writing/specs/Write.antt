@@ -1,28 +1,19 @@
 -- Document 01, "Write": the rule of the call on what it is handed.
-use Prim.Native.Nat.{ℕ, suc}
+use Prim.Native.Nat.{ℕ}
 use mathlib.Core.Path.{_≡_}
-use mathlib.Core.List.{List, [], _∷_, _++_}
-use mathlib.Core.Bool.{Bool, true, cond, _&&_}
+use mathlib.Core.List.{List, _++_}
+use mathlib.Core.Bool.{cond}
 use mathlib.Core.Option.{Option, none, some}
 use lib.ListN.{length, drop}
-use lib.Dec.{leb, ltb}
+use lib.Dec.{leb}
 use Rattle.refusal.specs.Numbers.{outputShort, outOfRange}
 use Rattle.refusal.specs.Answer.{Answer, ok, no, refused, andThen, paperRefusal}
 use Rattle.calendar.specs.Calendar.{dateOf}
 use Rattle.calendar.specs.declared.Date.{Date}
-use Rattle.codes.specs.Places.{placesEnd, capacity}
+use Rattle.codes.specs.Places.{isSet}
 use Rattle.codes.specs.Written.{written}
 use Rattle.writing.specs.declared.Written.{Written}
 use Rattle.writing.specs.declared.Written.the-variants.{Length, Refused}
-
--- strictly ascending places, from b up
-unfoldable pub ascends : ℕ → List ℕ → Bool
-ascends b [] = true
-ascends b (p ∷ ps) = leb b p && ltb p placesEnd && ascends (suc p) ps
-
--- the places of a segment: at least one, and at most 120
-unfoldable pub isSet : List ℕ → Bool
-isSet ps = leb 1 (length ps) && leb (length ps) capacity && ascends 0 ps
 
 -- the block of these places and this purge minute: 24 for what is no segment's content
 abbrev pub datedBlock : List ℕ → Option Date → Answer (List ℕ)
