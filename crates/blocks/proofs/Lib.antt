@@ -1,0 +1,10 @@
+pub mod Chunks
+pub mod Seals
+pub mod Blocks
+pub mod Numbers
+pub mod Forms
+pub mod Contents
+pub mod Scans
+pub mod Used
+pub mod Copies
+pub mod Stored

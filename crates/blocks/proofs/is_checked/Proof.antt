@@ -1,0 +1,17 @@
+use Rattle.blocks.proofs.Scans.{checked-is}
+use borrow.Author.Needs.{needs}
+use Rattle.blocks.proofs.is_checked.Statement.{statement}
+use Rattle.blocks.proofs.is_checked.Tie as tie
+
+pub is-checked-spec : {M : Type 1} → statement M
+is-checked-spec =
+    tie.close
+    (tie.spec
+    (λ c κs. search needs)
+    (λ c. search needs)
+    (λ c κs. search needs)
+    (λ c. search needs)
+    (λ c κs. search needs)
+    (λ c. search needs)
+    (λ c. search needs)
+    (λ c. search (checked-is, needs)))

@@ -1,0 +1,3 @@
+pub mod Block
+pub mod Content
+pub mod Held

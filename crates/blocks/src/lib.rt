@@ -1,0 +1,314 @@
+// The 512-byte blocks of a book: document 01, "The book". These functions are for the book's own crates; a public call has tested what it hands to them.
+ghost use mathlib.Core.Path.{_≡_};
+ghost use mathlib.Core.Option.{none, some};
+ghost use Prim.Native.Nat.{_+_, _*_, _≤_, _<_};
+ghost use lib.ListN.{length, getD, take, drop, replicate};
+ghost use lib.Seq.{slice, sets};
+ghost use Rattle.codes.specs.Places.{capacity, ascends};
+ghost use Rattle.blocks.specs.Block.{checkOf, sealed, checked, bytes32, numberAt, numbersOf, flat, blockOf, putBlock, allZero, sameList, bookLength, blockCount, blockLength};
+ghost use Rattle.blocks.specs.Content.{contentOf, holding, isUsed, isUnused};
+ghost use Rattle.blocks.specs.Held.{heldContent, Fits};
+
+// A content by value: the first `count` places are used.
+pub struct Held {
+    pub purge: u32,
+    pub places: [u32; 120],
+    pub count: usize,
+}
+
+fn wide(x: u8) -> u32
+    ensures { λ r. ⌜ (r ≡ x) × (r < 256) ⌝ }
+{
+    x as u32
+}
+
+pub fn size(x: u8) -> usize
+    ensures { λ r. ⌜ (r ≡ x) × (r < 256) ⌝ }
+{
+    x as usize
+}
+
+// The check of a block: 1 and the weighted sum of its first 510 bytes, modulo 65,521.
+fn check(b: &[u8]) -> u32
+    requires { ⌜ length (now b) ≡ blockLength ⌝ }
+    ensures { λ r. ⌜ r ≡ checkOf (now (b .entry)) ⌝ }
+{
+    let mut sum: u32 = 1;
+    let mut i: usize = 0;
+    while i < 510 {
+        let x = wide(b[i]);
+        sum += (i as u32 + 1) * x;
+        i += 1;
+    }
+    sum % 65521
+}
+
+pub fn is_checked(b: &[u8]) -> bool
+    requires { ⌜ length (now b) ≡ blockLength ⌝ }
+    ensures { λ r. ⌜ r ≡ checked (now (b .entry)) ⌝ }
+{
+    let c = check(b);
+    let low = wide(b[510]);
+    let high = wide(b[511]);
+    c == low + 256 * high
+}
+
+// Whether the bytes from `from` up to `to` are zero.
+pub fn all_zero(b: &[u8], from: usize, to: usize) -> bool
+    requires { ⌜ (from ≤ to) × (to ≤ length (now b)) ⌝ }
+    ensures { λ r. ⌜ r ≡ allZero (slice from to (now (b .entry))) ⌝ }
+{
+    let mut i = from;
+    while i < to {
+        if b[i] != 0 {
+            return false;
+        }
+        i += 1;
+    }
+    true
+}
+
+// The number in the four bytes at an offset.
+pub fn number_at(b: &[u8], at: usize) -> u32
+    requires { ⌜ at + 4 ≤ length (now b) ⌝ }
+    ensures { λ r. ⌜ r ≡ numberAt (now (b .entry)) at ⌝ }
+{
+    let x0 = wide(b[at]);
+    let x1 = wide(b[at + 1]);
+    let x2 = wide(b[at + 2]);
+    let x3 = wide(b[at + 3]);
+    x0 + 256 * x1 + 65536 * x2 + 16777216 * x3
+}
+
+// Whether the n numbers from byte 8 ascend strictly and are places.
+fn ascending(b: &[u8], n: usize) -> bool
+    requires { ⌜ (length (now b) ≡ blockLength) × (n ≤ capacity) ⌝ }
+    ensures { λ r. ⌜ r ≡ ascends 0 (numbersOf n (drop 8 (now (b .entry)))) ⌝ }
+{
+    let mut k: usize = 0;
+    let mut least: u32 = 0;
+    while k < n {
+        let x = number_at(b, 8 + 4 * k);
+        if x < least {
+            return false;
+        }
+        if x >= 1352000 {
+            return false;
+        }
+        least = x + 1;
+        k += 1;
+    }
+    true
+}
+
+// Whether a block is a good used one, under the book's issue.
+pub fn is_used(b: &[u8], issue: usize) -> bool
+    requires { ⌜ length (now b) ≡ blockLength ⌝ }
+    ensures { λ r. ⌜ r ≡ isUsed issue (now (b .entry)) ⌝ }
+{
+    if !is_checked(b) {
+        return false;
+    }
+    let n = size(b[4]);
+    if n < 1 {
+        return false;
+    }
+    if 120 < n {
+        return false;
+    }
+    if !all_zero(b, 5, 8) {
+        return false;
+    }
+    if !all_zero(b, 8 + 4 * n, 510) {
+        return false;
+    }
+    if !ascending(b, n) {
+        return false;
+    }
+    calendar::is_purge(issue, number_at(b, 0) as usize)
+}
+
+pub fn is_unused(b: &[u8]) -> bool
+    requires { ⌜ length (now b) ≡ blockLength ⌝ }
+    ensures { λ r. ⌜ r ≡ isUnused (now (b .entry)) ⌝ }
+{
+    if is_checked(b) {
+        return all_zero(b, 0, 510);
+    }
+    false
+}
+
+// Stores the check.
+fn seal(b: &mut [u8])
+    requires { ⌜ length (now b) ≡ blockLength ⌝ }
+    ensures { λ _. ⌜ now (b .exit) ≡ sealed (now (b .entry)) ⌝ }
+{
+    let c = check(b);
+    b[510] = (c % 256) as u8;
+    b[511] = (c / 256 % 256) as u8;
+}
+
+// Seals block k of a book.
+pub fn seal_block(book: &mut [u8], k: usize)
+    requires { ⌜ (length (now book) ≡ bookLength) × (k < blockCount) ⌝ }
+    ensures { λ _. ⌜ now (book .exit) ≡ putBlock k (sealed (blockOf k (now (book .entry)))) (now (book .entry)) ⌝ }
+{
+    let a = k * 512;
+    let e = k * 512 + 512;
+    seal(&mut book[a..e]);
+}
+
+// Copies block i of a book over block j.
+pub fn copy_block(book: &mut [u8], i: usize, j: usize)
+    requires { ⌜ (length (now book) ≡ bookLength) × (i < blockCount) × (j < blockCount) ⌝ }
+    ensures { λ _. ⌜ now (book .exit) ≡ putBlock j (blockOf i (now (book .entry))) (now (book .entry)) ⌝ }
+{
+    let from = i * 512;
+    let to = j * 512;
+    let mut k: usize = 0;
+    while k < 512 {
+        let x = book[from + k];
+        book[to + k] = x;
+        k += 1;
+    }
+}
+
+// Zeros.
+fn clear(b: &mut [u8])
+    ensures { λ _. ⌜ now (b .exit) ≡ replicate (length (now (b .entry))) 0 ⌝ }
+{
+    let mut i: usize = 0;
+    while i < b.len() {
+        b[i] = 0;
+        i += 1;
+    }
+}
+
+fn unuse(b: &mut [u8])
+    requires { ⌜ length (now b) ≡ blockLength ⌝ }
+    ensures { λ _. ⌜ now (b .exit) ≡ holding none ⌝ }
+{
+    clear(b);
+    seal(b);
+}
+
+// Makes block k of a book an unused one.
+pub fn clear_block(book: &mut [u8], k: usize)
+    requires { ⌜ (length (now book) ≡ bookLength) × (k < blockCount) ⌝ }
+    ensures { λ _. ⌜ now (book .exit) ≡ putBlock k (holding none) (now (book .entry)) ⌝ }
+{
+    let a = k * 512;
+    let e = k * 512 + 512;
+    unuse(&mut book[a..e]);
+}
+
+// Whether two parts of one length have the same bytes.
+fn same_bytes(a: &[u8], b: &[u8]) -> bool
+    requires { ⌜ length (now a) ≡ length (now b) ⌝ }
+    ensures { λ r. ⌜ r ≡ sameList (now (a .entry)) (now (b .entry)) ⌝ }
+{
+    let mut i: usize = 0;
+    while i < a.len() {
+        if a[i] != b[i] {
+            return false;
+        }
+        i += 1;
+    }
+    true
+}
+
+// Whether two blocks of a book have the same bytes.
+pub fn same_blocks(book: &[u8], i: usize, j: usize) -> bool
+    requires { ⌜ (length (now book) ≡ bookLength) × (i < blockCount) × (j < blockCount) ⌝ }
+    ensures { λ r. ⌜ r ≡ sameList (blockOf i (now (book .entry))) (blockOf j (now (book .entry))) ⌝ }
+{
+    let a = i * 512;
+    let e = i * 512 + 512;
+    let f = j * 512;
+    let g = j * 512 + 512;
+    same_bytes(&book[a..e], &book[f..g])
+}
+
+// Reads the n numbers from byte 8.
+fn read_numbers(b: &[u8], n: usize, into: &mut [u32])
+    requires { ⌜ (length (now b) ≡ blockLength) × (n ≤ capacity) × (length (now into) ≡ capacity) ⌝ }
+    ensures { λ _. ⌜ take n (now (into .exit)) ≡ numbersOf n (drop 8 (now (b .entry))) ⌝ }
+{
+    let mut i: usize = 0;
+    while i < n {
+        let x = number_at(b, 8 + 4 * i);
+        into[i] = x;
+        i += 1;
+    }
+}
+
+fn read_content(b: &[u8]) -> Held
+    requires { ⌜ (length (now b) ≡ blockLength) × (getD (now b) 4 0 ≤ capacity) ⌝ }
+    ensures is { λ r. ⌜ heldContent r ≡ contentOf (now (b .entry)) ⌝ }
+    ensures fits { λ r. ⌜ Fits r ⌝ }
+{
+    let n = size(b[4]);
+    let p = number_at(b, 0);
+    let mut places: [u32; 120] = [0; 120];
+    read_numbers(b, n, &mut places);
+    Held {
+        purge: p,
+        places: places,
+        count: n,
+    }
+}
+
+// The content of block k, whose count is in its range.
+pub fn load(book: &[u8], k: usize) -> Held
+    requires { ⌜ (length (now book) ≡ bookLength) × (k < blockCount) × (getD (blockOf k (now book)) 4 0 ≤ capacity) ⌝ }
+    ensures is { λ r. ⌜ heldContent r ≡ contentOf (blockOf k (now (book .entry))) ⌝ }
+    ensures fits { λ r. ⌜ Fits r ⌝ }
+{
+    let a = k * 512;
+    let e = k * 512 + 512;
+    read_content(&book[a..e])
+}
+
+// Stores a number in the four bytes at an offset.
+pub fn put_number(b: &mut [u8], at: usize, v: u32)
+    requires { ⌜ at + 4 ≤ length (now b) ⌝ }
+    ensures { λ _. ⌜ now (b .exit) ≡ sets (now (b .entry)) at (bytes32 v) ⌝ }
+{
+    b[at] = (v % 256) as u8;
+    b[at + 1] = (v / 256 % 256) as u8;
+    b[at + 2] = (v / 65536 % 256) as u8;
+    b[at + 3] = (v / 16777216 % 256) as u8;
+}
+
+// Stores numbers from byte 8 on.
+fn put_numbers(b: &mut [u8], places: &[u32])
+    requires { ⌜ (length (now b) ≡ blockLength) × (length (now places) ≤ capacity) ⌝ }
+    ensures { λ _. ⌜ now (b .exit) ≡ sets (now (b .entry)) 8 (flat bytes32 (now (places .entry))) ⌝ }
+{
+    let mut i: usize = 0;
+    while i < places.len() {
+        put_number(b, 8 + 4 * i, places[i]);
+        i += 1;
+    }
+}
+
+fn put_content(b: &mut [u8], purge: u32, places: &[u32])
+    requires { ⌜ (length (now b) ≡ blockLength) × (length (now places) ≤ capacity) ⌝ }
+    ensures { λ _. ⌜ now (b .exit) ≡ holding (some (record { purge = purge; places = now (places .entry) })) ⌝ }
+{
+    clear(b);
+    put_number(b, 0, purge);
+    b[4] = places.len() as u8;
+    put_numbers(b, places);
+    seal(b);
+}
+
+// Makes block k of a book a used one with this content.
+pub fn store(book: &mut [u8], k: usize, purge: u32, places: &[u32])
+    requires { ⌜ (length (now book) ≡ bookLength) × (k < blockCount) × (length (now places) ≤ capacity) ⌝ }
+    ensures { λ _. ⌜ now (book .exit) ≡ putBlock k (holding (some (record { purge = purge; places = now (places .entry) }))) (now (book .entry)) ⌝ }
+{
+    let a = k * 512;
+    let e = k * 512 + 512;
+    put_content(&mut book[a..e], purge, places);
+}
