@@ -1,0 +1,4 @@
+pub mod Layout
+pub mod Sound
+pub mod Rule
+pub mod Lies
