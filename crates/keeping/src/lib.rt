@@ -1,0 +1,1 @@
+// Every step of a book keeps it sound: theorems over the rules of layout. No code.

@@ -1,0 +1,140 @@
+-- Demand 3 on bytes, proved: `whole-bytes`. Assumes nothing.
+use Prim.Native.Nat.{ℕ, zero, suc, _+_, _-_, _*_, _/_, _%_, _≤_, _<_}
+use native.Mathlib.Omega.{arith}
+use mathlib.Core.Path.{_≡_, refl, sym, _∙_, ap}
+use mathlib.Core.List.{List, [], _∷_, _++_}
+use lib.ListN.{length, getD, List·getD-append}
+use borrow.Author.Tests.{eq-eqb}
+use Rattle.laws.proofs.Tests.{by-order}
+use Rattle.laws.proofs.Lists.{all-nil, all-cons}
+use Rattle.codes.specs.Block.{Content}
+use Rattle.blocks.specs.Block.{bookLength, flat, blockOf}
+use Rattle.blocks.proofs.Seals.{sealed-at}
+use Rattle.steps.specs.Book.{Book, newBook}
+use Rattle.steps.specs.Calls.{Call, step}
+use Rattle.layout.specs.Layout.{draftBytes, front, back, indexBytes, blockBytes, bytesOf}
+use Rattle.layout.specs.Sound.{closed-fine, Sound}
+use Rattle.layout.specs.Rule.{leaving, onBytes}
+use Rattle.layout.proofs.ForthIndex.{index-steps, index-mid, index-step}
+use Rattle.layout.proofs.ForthBlocks.{bytes-length, block-at}
+use Rattle.layout.proofs.ForthParts.{sound-wide, bytes-lie}
+use Rattle.layout.proofs.ForthLies.{lies-segment, lies-before}
+use Rattle.layout.proofs.Forth.{book-bytes}
+use Rattle.layout.proofs.ForthSound.{bytes-sound}
+use Rattle.keeping.proofs.Keeping.{step-sound}
+use Rattle.steps.specs.Serial.{Event, run, calls, kept}
+use Rattle.serial.specs.Bytewise.{runBytes, rerunBytes, WholeBytes}
+use Rattle.steps.proofs.Whole.{alone, whole-run}
+
+-- ---- calls on the bytes of a sound book
+-- one call
+step-bytes : (b : Book) → Sound b → (c : Call) → onBytes (bytesOf b) c ≡ leaving (step b c)
+unfolding onBytes
+step-bytes b h c = rw (eq-eqb (length (bytesOf b)) bookLength (bytes-length b (sound-wide b h)), bytes-sound b h, book-bytes b h)
+
+-- all of them
+pub run-bytes : (cs : List Call) (b : Book) → Sound b → runBytes (bytesOf b) cs ≡ (run b cs .0, bytesOf (run b cs .1))
+unfolding runBytes run
+run-bytes [] b h = refl
+run-bytes (c ∷ cs) b h = rw (step-bytes b h c, run-bytes cs (step b c .1) (step-sound b c h))
+
+pub run-sound : (cs : List Call) (b : Book) → Sound b → Sound (run b cs .1)
+unfolding run
+run-sound [] b h = h
+run-sound (c ∷ cs) b h = run-sound cs (step b c .1) (step-sound b c h)
+
+-- ---- a book, and the same with every draft closed
+module _ (b : Book) (sound : Sound b) where
+  alone-sound : Sound (alone b)
+  alone-sound =
+      record {
+        year = sound .year;
+        one = sound .one;
+        eight = sound .eight;
+        contents = sound .contents;
+        four = refl;
+        drafts = all-cons closed-fine (all-cons closed-fine (all-cons closed-fine (all-cons closed-fine all-nil)));
+        past = sound .past;
+      }
+
+  -- their segment blocks
+  same-segments : (k : ℕ) → 1 ≤ k → k ≤ 8 → blockOf k (bytesOf (alone b)) ≡ blockOf k (bytesOf b)
+  same-segments zero h g = absurd (omega arith)
+  same-segments (suc n) h g =
+      lies-segment (bytesOf (alone b)) (alone b) (bytes-lie (alone b) alone-sound) n (omega arith)
+      ∙ sym (lies-segment (bytesOf b) b (bytes-lie b sound) n (omega arith))
+
+  -- their step blocks
+  same-steps : (k : ℕ) → 17 ≤ k → k ≤ 48 → blockOf k (bytesOf (alone b)) ≡ blockOf k (bytesOf b)
+  same-steps k h g =
+      let s : ℕ = (k - 17) / 2 in
+      let j : ℕ = (k - 17) % 2 in
+      let e : k ≡ 17 + 2 * s + j = omega arith in
+      let p : s < 16 = omega arith in
+      let q : j < 2 = omega arith in
+      ap (λ (i : ℕ). blockOf i (bytesOf (alone b))) e
+      ∙ lies-before (bytesOf (alone b)) (alone b) (bytes-lie (alone b) alone-sound) s j p q
+      ∙ sym (ap (λ (i : ℕ). blockOf i (bytesOf b)) e ∙ lies-before (bytesOf b) b (bytes-lie b sound) s j p q)
+
+-- the bytes of block 0 before its check
+first-at : (b : Book) → Sound b → (i : ℕ) → i < 510 → getD (blockOf 0 (bytesOf b)) i 0 ≡ getD (indexBytes b) i 0
+unfolding blockBytes
+first-at b h i g = ap (λ (z : List ℕ). getD z i 0) (block-at b (sound-wide b h) 0 (omega arith)) ∙ sealed-at (indexBytes b) i g
+
+-- those before the drafts
+front-at : (b : Book) (i : ℕ) → i < 8 → getD (indexBytes b) i 0 ≡ getD (front b) i 0
+unfolding indexBytes
+front-at b i h = List·getD-append (front b) (flat draftBytes (b .drafts) ++ back b) 0 i h
+
+module _ (b : Book) (sound : Sound b) where
+  same-front : (i : ℕ) → i < 8 → getD (blockOf 0 (bytesOf (alone b))) i 0 ≡ getD (blockOf 0 (bytesOf b)) i 0
+  same-front i h =
+      first-at (alone b) (alone-sound b sound) i (omega arith) ∙ front-at (alone b) i h
+      ∙ sym (first-at b sound i (omega arith) ∙ front-at b i h)
+
+  -- those after the drafts: the number of steps, zeros, the steps' segments
+  same-back : (i : ℕ) → 24 ≤ i → i < 510 → getD (indexBytes (alone b)) i 0 ≡ getD (indexBytes b) i 0
+  same-back i h g =
+      by-order i 25
+      (λ l. let e : i ≡ 24 = omega arith in
+      ap (λ (n : ℕ). getD (indexBytes (alone b)) n 0) e ∙ index-steps (alone b) refl
+      ∙ sym (ap (λ (n : ℕ). getD (indexBytes b) n 0) e ∙ index-steps b (sound .four)))
+      (λ l.
+      by-order i 32
+      (λ m. index-mid (alone b) refl i l m ∙ sym (index-mid b (sound .four) i l m))
+      (λ m. let s : ℕ = (i - 32) / 2 in
+      let j : ℕ = (i - 32) % 2 in
+      let e : i ≡ 32 + 2 * s + j = omega arith in
+      let p : s < 240 = omega arith in
+      let q : j < 2 = omega arith in
+      ap (λ (n : ℕ). getD (indexBytes (alone b)) n 0) e ∙ index-step (alone b) refl (sound .past .sixteen) s j p q
+      ∙ sym (ap (λ (n : ℕ). getD (indexBytes b) n 0) e ∙ index-step b (sound .four) (sound .past .sixteen) s j p q)))
+
+  same-index : (i : ℕ) → 24 ≤ i → i < 510 → getD (blockOf 0 (bytesOf (alone b))) i 0 ≡ getD (blockOf 0 (bytesOf b)) i 0
+  same-index i h g = first-at (alone b) (alone-sound b sound) i g ∙ same-back i h g ∙ sym (first-at b sound i g)
+
+-- ---- demand 3 on bytes
+-- the kept calls get the kept answers, and leave the bytes of the book that the history left, with every draft closed
+pub whole-run-bytes : (issue : ℕ) (segments : List Content) → Sound (newBook issue segments) → (h : List Call) →
+    rerunBytes (bytesOf (newBook issue segments)) h
+    ≡ (kept (run (newBook issue segments) h .0), bytesOf (alone (run (newBook issue segments) h .1)))
+whole-run-bytes issue segments sound h =
+    rw (run-bytes h (newBook issue segments) sound)
+    (run-bytes (calls (kept (run (newBook issue segments) h .0))) (newBook issue segments) sound
+    ∙ ap (λ (x : List Event × Book). (x .0, bytesOf (x .1))) (whole-run issue segments h))
+
+pub whole-bytes : (issue : ℕ) (segments : List Content) → Sound (newBook issue segments) → (h : List Call) →
+    WholeBytes (bytesOf (newBook issue segments)) h
+whole-bytes issue segments sound h =
+    let b : Book = newBook issue segments in
+    let last : Book = run b h .1 in
+    let good : Sound last = run-sound h b sound in
+    let e : runBytes (bytesOf b) h ≡ (run b h .0, bytesOf last) = run-bytes h b sound in
+    let f : rerunBytes (bytesOf b) h ≡ (kept (run b h .0), bytesOf (alone last)) = whole-run-bytes issue segments sound h in
+    record {
+      answers = ap (λ (x : List Event × List ℕ). x .0) f ∙ sym (ap (λ (x : List Event × List ℕ). kept (x .0)) e);
+      front = λ i p. ap (λ (x : List Event × List ℕ). getD (blockOf 0 (x .1)) i 0) f ∙ same-front last good i p ∙ sym (ap (λ (x : List Event × List ℕ). getD (blockOf 0 (x .1)) i 0) e);
+      segments = λ k p q. ap (λ (x : List Event × List ℕ). blockOf k (x .1)) f ∙ same-segments last good k p q ∙ sym (ap (λ (x : List Event × List ℕ). blockOf k (x .1)) e);
+      index = λ i p q. ap (λ (x : List Event × List ℕ). getD (blockOf 0 (x .1)) i 0) f ∙ same-index last good i p q ∙ sym (ap (λ (x : List Event × List ℕ). getD (blockOf 0 (x .1)) i 0) e);
+      steps = λ k p q. ap (λ (x : List Event × List ℕ). blockOf k (x .1)) f ∙ same-steps last good k p q ∙ sym (ap (λ (x : List Event × List ℕ). blockOf k (x .1)) e);
+    }
