@@ -1,0 +1,175 @@
+-- Work on a draft's copy: what the call on the book's bytes answers and leaves. Assumes nothing.
+use Prim.Native.Nat.{ℕ, zero, suc, _+_, _*_, _-_, _≤_, _<_}
+use native.Mathlib.Omega.{arith}
+use mathlib.Core.Path.{_≡_, sym, ap, ap₂, subst, _∙_}
+use mathlib.Core.List.{List, [], _∷_}
+use mathlib.Core.Bool.{Bool, true}
+use mathlib.Core.Option.{Option, none, some}
+use lib.ListN.{length, getD, getElem?, set, take-append-drop}
+use lib.Seq.{set-getD}
+use borrow.Author.Tests.{eq-eqb}
+use Rattle.laws.proofs.Tests.{apart}
+use Rattle.laws.proofs.Lists.{All, all-nil, all-cons}
+use Rattle.refusal.specs.Numbers.{notTaken}
+use Rattle.codes.specs.Places.{capacity}
+use Rattle.codes.specs.Block.{Content}
+use Rattle.blocks.specs.Block.{bookLength, sealed, blockOf, putBlock}
+use Rattle.blocks.specs.Content.{holding, isContent}
+use Rattle.blocks.proofs.Blocks.{put-other-block}
+use Rattle.blocks.proofs.Numbers.{Bytes}
+use Rattle.blocks.proofs.Contents.{used-length}
+use Rattle.steps.specs.Book.{Copy, Draft, closed, working, Book, at}
+use Rattle.steps.specs.Calls.{Edit, Work, editing, Call, on, Answer, refused, edited, inRange, copyOf, recopy, works, ranged, work, acts, withDrafts, step}
+use Rattle.layout.specs.Layout.{heldOf, heldIn, copiesOf, copy, partOf, blockBytes, bytesOf, bookOf}
+use Rattle.layout.specs.Sound.{isSound, FineTaken, FineDraft, closed-fine, working-fine, Sound}
+use Rattle.layout.specs.Rule.{leaving, onBytes}
+use Rattle.layout.specs.Lies.{Lies}
+use Rattle.layout.proofs.ForthBlocks.{lies-sealed}
+use Rattle.layout.proofs.Items.{all-get}
+use Rattle.layout.proofs.ForthParts.{part-copy}
+use Rattle.layout.proofs.Parts.{sound-parts}
+use Rattle.layout.proofs.IndexBack.{index-sealed}
+use Rattle.layout.proofs.Back.{sound-lies}
+use Rattle.layout.proofs.SoundBack.{sound-book}
+use Rattle.moves.proofs.Parts.{draft-get}
+use Rattle.drafts.proofs.Copies.{Indexed, recopy-same, changed-lies}
+
+-- ---- what is known of sound bytes
+pub record Base (l : List ℕ) : Type 0 where
+  pub sound : isSound l ≡ true
+  pub lies : Lies l (bookOf l)
+  pub fine : Sound (bookOf l)
+  pub seal : sealed (blockOf 0 l) ≡ blockOf 0 l
+
+pub base-of : (l : List ℕ) → Bytes l → isSound l ≡ true → Base l
+base-of l y e = record { sound = e; lies = sound-lies l y e; fine = sound-book l y e; seal = index-sealed l y (sound-parts l e) }
+
+put-own : (l : List ℕ) → putBlock 0 (blockOf 0 l) l ≡ l
+unfolding putBlock blockOf
+put-own l = take-append-drop 512 l
+
+-- bytes that a book lies in, with the check of block 0
+pub own-bytes : (l : List ℕ) (b : Book) → Lies l b → sealed (blockOf 0 l) ≡ blockOf 0 l → l ≡ bytesOf b
+own-bytes l b lies e = sym (put-own l) ∙ ap (λ (z : List ℕ). putBlock 0 z l) (sym e) ∙ lies-sealed l b lies
+
+-- a draft that stays as it was
+pub still : (l : List ℕ) → Base l → (k : ℕ) (x : Draft) → getD (bookOf l .drafts) k closed ≡ x → bytesOf (withDrafts (bookOf l) (set (bookOf l .drafts) k x)) ≡ l
+still l base k x e =
+    ap (λ (ds : List Draft). bytesOf (withDrafts (bookOf l) ds)) (ap (set (bookOf l .drafts) k) (sym e) ∙ set-getD (bookOf l .drafts) k closed)
+    ∙ sym (own-bytes l (bookOf l) (base .lies) (base .seal))
+
+-- ---- an open draft of a sound book
+abbrev TakenBy : ℕ → ℕ → Draft → Type 0
+TakenBy issue n closed = ⊥
+TakenBy issue n (working ks stale) = FineTaken issue n ks stale
+
+fine-taken : {issue n : ℕ} {d : Draft} {ks : List Copy} {stale : Bool} → FineDraft issue n d → d ≡ working ks stale → FineTaken issue n ks stale
+fine-taken closed-fine e = apart cc
+fine-taken {issue} {n} (working-fine f) e = subst (TakenBy issue n) e f
+
+all-some : {A : Type 0} {P : A → Type 0} {xs : List A} (i : ℕ) {x : A} → All P xs → getElem? xs i ≡ some x → P x
+all-some i all-nil e = apart cc
+all-some {P} zero (all-cons p a) e = subst P (some-is e) p
+  where
+    some-is : {A : Type 0} {x y : A} → some x ≡ some y → x ≡ y
+    some-is e = cc
+all-some (suc i) (all-cons p a) e = all-some i a e
+
+module _ (l : List ℕ) (base : Base l) (k : ℕ) (ks : List Copy) (stale : Bool) (low : k < 4) (opened : getD (bookOf l .drafts) k closed ≡ working ks stale)
+    (s : ℕ) (c₀ : Content) (there : at (bookOf l .segments) s ≡ some c₀) where
+  abbrev b : Book
+  b = bookOf l
+
+  taken : FineTaken (b .issue) (length (b .segments)) ks stale
+  taken = fine-taken (all-get closed k (base .fine .drafts) (omega (arith, base .lies .four))) opened
+
+  step-is : (w : Work) → step b (on (suc k) s w) ≡ acts b (suc k) s w (working ks stale)
+  unfolding step
+  step-is w = ap (acts b (suc k) s w) (draft-get (b .drafts) k ∙ opened)
+
+  bytes-is : (c : Call) → onBytes l c ≡ leaving (step b c)
+  unfolding onBytes
+  bytes-is c = rw (eq-eqb (length l) bookLength (base .lies .long), base .sound)
+
+  same-bytes : bytesOf (withDrafts b (set (b .drafts) k (working ks stale))) ≡ l
+  same-bytes = still l base k (working ks stale) opened
+
+  module _ (e : Edit) where
+    abbrev call : Call
+    call = on (suc k) s (editing e)
+
+    acted : onBytes l call ≡ leaving (acts b (suc k) s (editing e) (working ks stale))
+    acted = bytes-is call ∙ ap leaving (step-is (editing e))
+
+    module _ (r : inRange (editing e) ≡ true) where
+      work-is : work (b .issue) s (at (b .segments) s) (editing e) ks ≡ works (b .issue) s c₀ (editing e) ks (copyOf s ks)
+      unfolding work
+      work-is = ap₂ (λ (h : Option Content) (t : Bool). ranged (b .issue) s h (editing e) ks t) there r
+
+      -- 16
+      module _ (absent : copyOf s ks ≡ none) where
+        nothing : work (b .issue) s (at (b .segments) s) (editing e) ks ≡ (refused notTaken, ks)
+        nothing = work-is ∙ ap (works (b .issue) s c₀ (editing e) ks) absent
+
+        pub absent-answer : onBytes l (on (suc k) s (editing e)) .0 ≡ refused notTaken
+        absent-answer = ap (λ (x : Answer × List ℕ). x .0) acted ∙ ap (λ (x : Answer × List Copy). x .0) nothing
+
+        pub absent-bytes : onBytes l (on (suc k) s (editing e)) .1 ≡ l
+        absent-bytes =
+            ap (λ (x : Answer × List ℕ). x .1) acted
+            ∙ ap (λ (x : Answer × List Copy). bytesOf (withDrafts b (set (b .drafts) k (working (x .1) stale)))) nothing ∙ same-bytes
+
+      -- a copy
+      module _ (h : Content) (copied : copyOf s ks ≡ some h) where
+        found : work (b .issue) s (at (b .segments) s) (editing e) ks ≡ (edited (b .issue) e h .0, recopy s (edited (b .issue) e h .1) ks)
+        found = work-is ∙ ap (works (b .issue) s c₀ (editing e) ks) copied
+
+        pub copy-answer : onBytes l (on (suc k) s (editing e)) .0 ≡ edited (b .issue) e h .0
+        copy-answer = ap (λ (x : Answer × List ℕ). x .0) acted ∙ ap (λ (x : Answer × List Copy). x .0) found
+
+        copy-bytes : onBytes l (on (suc k) s (editing e)) .1
+            ≡ bytesOf (withDrafts b (set (b .drafts) k (working (recopy s (edited (b .issue) e h .1) ks) stale)))
+        copy-bytes =
+            ap (λ (x : Answer × List ℕ). x .1) acted
+            ∙ ap (λ (x : Answer × List Copy). bytesOf (withDrafts b (set (b .drafts) k (working (x .1) stale)))) found
+
+        pub copy-kept : edited (b .issue) e h .1 ≡ h → onBytes l (on (suc k) s (editing e)) .1 ≡ l
+        copy-kept same =
+            copy-bytes
+            ∙ ap (λ (ks : List Copy). bytesOf (withDrafts b (set (b .drafts) k (working ks stale))))
+            (ap (λ (c : Content). recopy s c ks) same ∙ recopy-same s h ks copied (taken .distinct))
+            ∙ same-bytes
+
+        pub copy-stored : (n : ℕ) → n < 2 → Indexed s ks n → length (edited (b .issue) e h .1 .places) ≤ capacity
+            → onBytes l (on (suc k) s (editing e)) .1 ≡ putBlock (9 + 2 * k + n) (holding (some (edited (b .issue) e h .1))) l
+        copy-stored n two v few =
+            let c : Content = edited (b .issue) e h .1 in
+            let new = changed-lies l b (base .lies) k ks stale low opened s n two v (taken .distinct) c few in
+            let first : blockOf 0 (putBlock (9 + 2 * k + n) (holding (some c)) l) ≡ blockOf 0 l =
+            put-other-block 49 (9 + 2 * k + n) l (holding (some c)) (omega arith) (base .lies .long) (used-length c few) 0 (omega arith) (λ z. omega (arith, z)) in
+            copy-bytes ∙ sym (own-bytes (putBlock (9 + 2 * k + n) (holding (some c)) l)
+            (withDrafts b (set (b .drafts) k (working (recopy s c ks) stale))) new (ap sealed first ∙ base .seal ∙ sym first))
+
+  -- the copy's block
+  module _ (n : ℕ) (v : Indexed s ks n) where
+    pub copy-two : n < 2
+    copy-two = omega (arith, taken .two, low-index ks n (v .here))
+      where
+        low-index : (ks : List Copy) (n : ℕ) {q : Copy} → getElem? ks n ≡ some q → n < length ks
+        low-index [] n e = apart cc
+        low-index (k ∷ ks) zero e = omega arith
+        low-index (k ∷ ks) (suc n) e = let h = low-index ks n e in omega arith
+
+    pub copy-fine : isContent (b .issue) (v .held) ≡ true
+    copy-fine = all-some n (taken .copies) (v .here) .fine
+
+    pub copy-block : blockOf (9 + 2 * k + n) l ≡ holding (some (v .held))
+    unfolding blockBytes heldIn
+    copy-block =
+        let i : ℕ = 8 + 2 * k + n in
+        let e : 9 + 2 * k + n ≡ suc (8 + 2 * k + n) = omega arith in
+        ap (λ (i : ℕ). blockOf i l) e ∙ base .lies .blocks (8 + 2 * k + n) (omega (arith, copy-two))
+        ∙ ap (λ (i : ℕ). holding (heldIn b (partOf i))) (sym e)
+        ∙ ap (λ p. holding (heldIn b p)) (part-copy k n low copy-two)
+        ∙ ap (λ (d : Draft). holding (heldOf (getElem? (copiesOf d) n))) (draft-get (b .drafts) k ∙ opened)
+        ∙ ap (λ o. holding (heldOf o)) (v .here)

@@ -1,0 +1,12 @@
+use borrow.Author.Needs.{needs}
+use Rattle.drafts.proofs.Finds.{there-zero, there-is}
+use borrow.Author.Needs.{needs}
+use Rattle.drafts.proofs.is_there.Statement.{statement}
+use Rattle.drafts.proofs.is_there.Tie as tie
+
+pub is-there-spec : {M : Type 1} → statement M
+is-there-spec = tie.close (tie.spec
+    (λ c. search (there-zero, needs))
+    (λ c. search needs)
+    (λ c κs. search needs)
+    (λ c. search (there-is, needs)))

@@ -1,0 +1,71 @@
+use native.Mathlib.Omega.{arith}
+use Rattle.blocks.proofs.Numbers.{Bytes}
+use Rattle.drafts.proofs.Ways.{refused-answer, admitting, working, load-long, load-block, load-few, absent-answers, reads-count}
+use borrow.Author.Needs.{needs}
+use Rattle.drafts.proofs.read_count.Statement.{statement}
+use Rattle.drafts.proofs.read_count.Tie as tie
+
+admit-requires : tie.Need-admit-requires
+admit-requires c κs = search needs
+
+enum-known-verdict : tie.Need-enum-known-verdict
+enum-known-verdict c = search needs
+
+returns : tie.Need-returns
+unfolding Bytes
+returns c =
+    let l = c .before .before .before .before .before .args .book .now in
+    let y : Bytes l = λ i. omega (arith, c .before .before .before .before .shared-slice-known .given i) in
+    search (refused-answer, y, needs)
+
+enum-told : tie.Need-enum-told
+enum-told c = search needs
+
+find-copy-requires : tie.Need-find-copy-requires
+find-copy-requires c κs = search (admitting, needs)
+
+enum-known-k : tie.Need-enum-known-k
+enum-known-k c = search needs
+
+enum-told-2 : tie.Need-enum-told-2
+enum-told-2 c = search needs
+
+refused-requires : tie.Need-refused-requires
+refused-requires c κs = search needs
+
+returns-2 : tie.Need-returns-2
+unfolding Bytes
+returns-2 c =
+    let l = c .before .before .before .before .before .before .before .before .args .book .now in
+    let y : Bytes l = λ i. omega (arith, c .before .before .before .before .before .before .before .shared-slice-known .given i) in
+    search (absent-answers, y, needs)
+
+load-requires : tie.Need-load-requires
+unfolding Bytes
+load-requires c κs =
+    let l = c .before .before .before .before .before .before .before .before .args .book .now in
+    let y : Bytes l = λ i. omega (arith, c .before .before .before .before .before .before .before .shared-slice-known .given i) in
+    (search (load-long, y, needs), search (load-block, y, needs), search (load-few, y, needs))
+
+returns-3 : tie.Need-returns-3
+unfolding Bytes
+returns-3 c =
+    let l = c .before .before .before .before .before .before .before .before .before .args .book .now in
+    let y : Bytes l = λ i. omega (arith, c .before .before .before .before .before .before .before .before .shared-slice-known .given i) in
+    search (reads-count, working, y, needs)
+
+pub read-count-spec : {M : Type 1} → statement M
+read-count-spec =
+    tie.close
+    (tie.spec
+    admit-requires
+    enum-known-verdict
+    returns
+    enum-told
+    find-copy-requires
+    enum-known-k
+    enum-told-2
+    refused-requires
+    returns-2
+    load-requires
+    returns-3)

@@ -1,0 +1,118 @@
+use native.Mathlib.Omega.{arith}
+use borrow.Author.Needs.{needs}
+use Rattle.blocks.proofs.Numbers.{Bytes}
+use Rattle.drafts.proofs.Takes.{take-admitted, take-long, take-sound, take-from, take-to, take-segment-from, take-segment-to, take-refused, take-again, take-full, take-does}
+use Rattle.drafts.proofs.take.Statement.{statement}
+use Rattle.drafts.proofs.take.Tie as tie
+use Rattle.drafts.proofs.take.Reads as reads
+use Rattle.drafts.proofs.take.Lts as lts
+use Rattle.drafts.proofs.admit.Reads as admit-reads
+use Rattle.drafts.proofs.count_taken.Reads as count-taken-reads
+use Rattle.drafts.proofs.find_copy.Reads as find-copy-reads
+use Rattle.drafts.proofs.refused.Reads as refused-reads
+use Rattle.moves.proofs.seal_index.Reads as seal-index-reads
+use Rattle.moves.proofs.take_copy.Reads as take-copy-reads
+
+admit-requires : tie.Need-admit-requires
+admit-requires c κs = search needs
+
+enum-known-verdict : tie.Need-enum-known-verdict
+enum-known-verdict c = search needs
+
+same-length : tie.Need-same-length
+same-length c = search needs
+
+returns : tie.Need-returns
+unfolding Bytes
+returns c =
+    let l = c .before .before .before .before .before .before .args .book .now in
+    let y : Bytes l = λ i. omega (arith, c .before .before .before .before .before .slice-known .given i) in
+    search (take-refused, y, needs)
+
+enum-told : tie.Need-enum-told
+enum-told c = search needs
+
+find-copy-requires : tie.Need-find-copy-requires
+find-copy-requires c κs = search (take-admitted, needs)
+
+enum-told-2 : tie.Need-enum-told-2
+enum-told-2 c = search needs
+
+enum-told-3 : tie.Need-enum-told-3
+enum-told-3 c = search needs
+
+refused-requires : tie.Need-refused-requires
+refused-requires c κs = search needs
+
+same-length-2 : tie.Need-same-length-2
+same-length-2 c = search needs
+
+returns-2 : tie.Need-returns-2
+unfolding Bytes
+returns-2 c =
+    let l = c .before .before .before .before .before .before .before .before .before .before .args .book .now in
+    let y : Bytes l = λ i. omega (arith, c .before .before .before .before .before .before .before .before .before .slice-known .given i) in
+    search (take-again, y, needs)
+
+count-taken-requires : tie.Need-count-taken-requires
+count-taken-requires c κs =
+    ((search (take-long, needs), search (take-from, needs), search (take-to, needs)), search (take-sound, needs))
+
+refused-requires-2 : tie.Need-refused-requires-2
+refused-requires-2 c κs = search needs
+
+same-length-3 : tie.Need-same-length-3
+same-length-3 c = search needs
+
+returns-3 : tie.Need-returns-3
+unfolding Bytes
+returns-3 c =
+    let l = c .before .before .before .before .before .before .before .before .before .before .before .before .before .args .book .now in
+    let y : Bytes l = λ i. omega (arith, c .before .before .before .before .before .before .before .before .before .before .before .before .slice-known .given i) in
+    search (take-full, y, needs)
+
+take-copy-requires : tie.Need-take-copy-requires
+take-copy-requires c κs =
+    (search (take-long, needs), search (take-from, needs), search (take-to, needs), search needs, search (take-segment-from, needs), search (take-segment-to, needs))
+
+seal-index-requires : tie.Need-seal-index-requires
+seal-index-requires c κs =
+    let l = c .before .before .before .before .before .before .before .before .before .before .before .before .before .before .before .before .before .args .book .now in
+    let long = take-long l _ _ _ (c .before .before .before .before .before .before .before .before .before .before .before .before .enum-told .given .1) (c .before .before .before .before .before .before .before .before .before .before .before .before .before .before .admit .ensures) in
+    search (long, needs)
+
+same-length-4 : tie.Need-same-length-4
+same-length-4 c = search needs
+
+returns-4 : tie.Need-returns-4
+unfolding Bytes
+returns-4 c =
+    let l = c .before .before .before .before .before .before .before .before .before .before .before .before .before .before .before .before .before .before .before .before .args .book .now in
+    let y : Bytes l = λ i. omega (arith, c .before .before .before .before .before .before .before .before .before .before .before .before .before .before .before .before .before .before .before .slice-known .given i) in
+    take-does l y _ _ _ (c .before .before .before .before .before .before .before .before .before .before .before .before .before .before .before .enum-told .given .1) (c .before .before .before .before .before .before .before .before .before .before .before .before .before .before .before .before .before .admit .ensures) _ (c .before .before .before .before .before .before .before .before .before .before .before .before .before .find-copy .ensures)
+    (c .before .before .before .before .before .before .before .before .before .before .before .enum-told2 .given .1) _ (c .before .before .before .before .before .before .before .before .before .count-taken .ensures) (c .before .before .before .before .before .before .before .before .if1 .left) _
+    (c .before .before .before .before .before .before .take-copy .ensures) _ (c .before .before .seal-index .ensures)
+
+pub take-spec : {M : Type 1} → statement M
+take-spec =
+    tie.close
+    (tie.spec
+    admit-requires
+    enum-known-verdict
+    same-length
+    returns
+    enum-told
+    find-copy-requires
+    enum-told-2
+    enum-told-3
+    refused-requires
+    same-length-2
+    returns-2
+    count-taken-requires
+    refused-requires-2
+    same-length-3
+    returns-3
+    take-copy-requires
+    seal-index-requires
+    same-length-4
+    returns-4)

@@ -1,0 +1,5 @@
+pub mod CommitStore
+pub mod CommitFound
+pub mod CommitRule
+pub mod UndoSteps
+pub mod UndoBooks

@@ -1,0 +1,25 @@
+use borrow.Author.Needs.{needs}
+use Rattle.history.proofs.CommitStore.{finish-done}
+use Rattle.history.proofs.finish.Statement.{statement}
+use Rattle.history.proofs.finish.Tie as tie
+use Rattle.history.proofs.finish.Reads as reads
+use Rattle.history.proofs.finish.Lts as lts
+use Rattle.moves.proofs.close_draft.Reads as close-draft-reads
+use Rattle.moves.proofs.seal_index.Reads as seal-index-reads
+
+close-draft-requires : tie.Need-close-draft-requires
+close-draft-requires c κs = search needs
+
+seal-index-requires : tie.Need-seal-index-requires
+seal-index-requires c κs = search needs
+
+same-length : tie.Need-same-length
+same-length c = search needs
+
+returns : tie.Need-returns
+returns c =
+    let s = c .before .before .before .before .before .before .before .before .before .args in
+    finish-done (s .book .now) _ _ (s .d) (c .before .before .before .before .before .before .close-draft .ensures) (c .before .before .seal-index .ensures)
+
+pub finish-spec : {M : Type 1} → statement M
+finish-spec = tie.close (tie.spec close-draft-requires seal-index-requires same-length returns)
