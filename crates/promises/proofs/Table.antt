@@ -8,7 +8,8 @@ use Rattle.calendar.specs.Purge.{purgeIn, purgeOf}
 use Rattle.codes.specs.Elements.{elementsAt, elementsOfLines, numbers, time, short, said}
 use Rattle.codes.specs.Block.{insert, insertRun, readFrom, readBlock, contentAt}
 use Rattle.codes.specs.Written.{join, runsOf, spansOf, elementOf, elementsOf, purgeElement, blockElements, wrapFrom, joined, rendered, written}
-use Rattle.writing.specs.Write.{ascends, isSet, blockOf}
+use Rattle.writing.specs.Write.{blockOf}
+use Rattle.codes.specs.Places.{ascends, isSet}
 use Rattle.lines.specs.Check.{badByte, longLine, lastEnds, unended, least, textFault, checkText}
 use Rattle.heading.specs.Heading.{isHeading, headingOf, isIdentifier}
 use Rattle.heading.specs.Storm.{isOffice, namesStorm, basinOf, classOf, stormOf}

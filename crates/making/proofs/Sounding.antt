@@ -1,0 +1,121 @@
+-- The book that is made of a bulletin is sound. Assumes nothing.
+use Prim.Native.Nat.{ℕ, suc, _-_, _≤_, _<_}
+use native.Mathlib.Omega.{arith}
+use mathlib.Core.Path.{_≡_, refl, subst}
+use mathlib.Core.Bool.{true}
+use mathlib.Core.List.{List, map}
+use mathlib.Core.Option.{Option, none, some}
+use lib.ListN.{length, length-map}
+use lib.Dec.{leb}
+use borrow.Author.Tests.{lt-ltb}
+use Rattle.laws.proofs.Tests.{by, apart}
+use Rattle.laws.proofs.Lists.{All, all-nil, all-cons, all-map}
+use Rattle.refusal.specs.Numbers.{Reason, wrongTime, tooManyPlaces}
+use Rattle.refusal.specs.Answer.{ok, refused}
+use Rattle.calendar.specs.Calendar.{yearOf, monthOfYear, issueMonths, isIssueMonth, startOf, minuteOf, stampAfter, monthOf, dateIn, dateOf}
+use Rattle.calendar.specs.declared.Date.{Date}
+use Rattle.calendar.specs.declared.Stamp.{Stamp}
+use Rattle.calendar.specs.Purge.{purgeOf}
+use Rattle.calendar.proofs.Laws.{start-mono, month-some, minute-date, issue-true, purge-is}
+use Rattle.codes.specs.Places.{capacity, isSet}
+use Rattle.codes.specs.Block.{Content, Read, block, wrongAt, readBlock, dated, contentIn, contentAt}
+use Rattle.roundtrip.proofs.RoundTrip.{Again, read-again}
+use Rattle.blocks.specs.Content.{isContent}
+use Rattle.keeping.proofs.Places.{set-is}
+use Rattle.keeping.proofs.Keeping.{new-sound}
+use Rattle.layout.specs.Sound.{isIssue, Fine, Sound}
+use Rattle.bulletin.specs.Segments.{Segment}
+use Rattle.bulletin.specs.Bulletin.{Bulletin, must, issued, readBulletin}
+use Rattle.making.specs.Make.{bookFrom}
+use Rattle.making.proofs.Openings.{Opens, opened-long}
+use Rattle.making.proofs.Made.{Stands, read-back, segmented}
+
+-- ---- the issue
+must-true : (reason : Reason) (place : ℕ) (year month : ℕ) → must (isIssueMonth year month) reason place ≡ ok tt → isIssueMonth year month ≡ true
+must-true reason place year month e =
+    by (isIssueMonth year month)
+    (λ t. t)
+    (λ t. let f : refused reason place ≡ ok tt = rw t at e in apart cc)
+
+issued-some : (o : Option ℕ) (t : ℕ) → issued o ≡ ok t → o ≡ some t
+issued-some none t e = apart cc
+issued-some (some m) t e = cc
+
+-- a date of the years up to 2099 stands before the end of the issues' months
+pub date-before : (d : Date) (t : ℕ) → minuteOf d ≡ some t → d .year ≤ 2099 → t < startOf issueMonths
+unfolding dateOf
+date-before d t e h = go (monthOf t) refl (minute-date d t e)
+  where
+    go : (o : Option ℕ) → monthOf t ≡ o → dateIn t o ≡ some d → t < startOf issueMonths
+    go none q f = apart cc
+    go (some k) q f =
+        let same : record { year = yearOf k; month = monthOfYear k; stamp = stampAfter (t - startOf k) } ≡ d = cc in
+        let year : yearOf k ≡ d .year = λ i. same i .year in
+        let low : suc k ≤ issueMonths = omega arith in
+        omega (arith, month-some t k q .high, start-mono (suc k) issueMonths low)
+
+-- the issue of a bulletin that is read is of the years 1970..2099
+pub made-issue : (text : List ℕ) (year month : ℕ) (b : Bulletin) → readBulletin text year month ≡ ok b → isIssue (b .issue) ≡ true
+unfolding isIssue
+made-issue text year month b e =
+    let r = read-back text year month b e in
+    let i = issue-true year month (must-true wrongTime 0 year month (r .known)) in
+    lt-ltb (b .issue) (startOf issueMonths)
+    (date-before (record { year = year; month = month; stamp = r .stamp }) (b .issue) (issued-some _ (b .issue) (r .dated)) (i .to))
+
+-- ---- the segments
+-- how many there are
+pub record Counted (b : Bulletin) : Type 0 where
+  pub one : 1 ≤ length (b .segments)
+  pub eight : length (b .segments) ≤ 8
+
+pub made-count : (text : List ℕ) (year month : ℕ) (b : Bulletin) → readBulletin text year month ≡ ok b → Counted b
+made-count text year month b e =
+    let s = segmented text year month b e in
+    record { one = s .one; eight = s .standing .few }
+
+-- the content at a place where a block opens has a place
+content-long : (text : List ℕ) (issue at : ℕ) (c : Content) → Opens text at → contentAt text issue at ≡ ok c → 1 ≤ length (c .places)
+unfolding contentAt
+content-long text issue at c o e = read (readBlock text at) refl e
+  where
+    date : (ps : List ℕ) (s : Stamp) (z : ℕ) (m : Option ℕ) → 1 ≤ length ps → dated at z ps m ≡ ok c → 1 ≤ length (c .places)
+    date ps s z none h f = apart cc
+    date ps s z (some t) h f =
+        by (leb (length ps) capacity)
+        (λ k.
+        let g : ok (record { purge = t; places = ps }) ≡ ok c = rw k at f in
+        let same : record { purge = t; places = ps } ≡ c = cc in
+        subst (λ (x : Content). 1 ≤ length (x .places)) same h)
+        (λ k. let g : refused tooManyPlaces at ≡ ok c = rw k at f in apart cc)
+
+    read : (r : Read) → readBlock text at ≡ r → contentIn issue at r ≡ ok c → 1 ≤ length (c .places)
+    read (wrongAt place) q f = apart cc
+    read (block ps s z) q f = date ps s z (purgeOf issue s) (opened-long text at ps s z o q) f
+
+-- and it is sound
+stands-fine : (text : List ℕ) (issue : ℕ) (g : Segment) → Stands text issue g → isContent issue (g .content) ≡ true
+unfolding isContent
+stands-fine text issue g s =
+    let c = g .content in
+    let a : Again issue c = read-again text issue (g .start) c (s .says) in
+    let one : 1 ≤ length (c .places) = content-long text issue (g .start) c (s .opening) (s .says) in
+    let set : isSet (c .places) ≡ true = set-is (c .places) (record { one = one; few = a .few; up = a .ascending }) in
+    rw set (purge-is issue (a .stamp) (c .purge) (a .gives))
+
+-- every content of a bulletin that is read is sound under its issue
+pub made-fine : (text : List ℕ) (year month : ℕ) (b : Bulletin) → readBulletin text year month ≡ ok b
+    → All (λ (g : Segment). isContent (b .issue) (g .content) ≡ true) (b .segments)
+made-fine text year month b e = all-map (stands-fine text (b .issue)) (segmented text year month b e .standing .each)
+
+-- ---- the book
+mapped : (issue : ℕ) {gs : List Segment} → All (λ (g : Segment). isContent issue (g .content) ≡ true) gs → All (Fine issue) (map (λ (g : Segment). g .content) gs)
+mapped issue all-nil = all-nil
+mapped issue (all-cons f a) = all-cons f (mapped issue a)
+
+pub made-sound : (text : List ℕ) (year month : ℕ) (b : Bulletin) → readBulletin text year month ≡ ok b → Sound (bookFrom b)
+made-sound text year month b e =
+    let n = made-count text year month b e in
+    let l : length (map (λ (g : Segment). g .content) (b .segments)) ≡ length (b .segments) = length-map (b .segments) (λ (g : Segment). g .content) in
+    new-sound (b .issue) (map (λ (g : Segment). g .content) (b .segments)) (made-issue text year month b e) (omega (arith, n .one)) (omega (arith, n .eight))
+    (mapped (b .issue) (made-fine text year month b e))

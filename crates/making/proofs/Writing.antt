@@ -1,0 +1,106 @@
+-- The ways out of writing a segment's block from a book. Assumes nothing.
+use Prim.Native.Nat.{ℕ, suc, _-_, _≤_, _<_}
+use native.Mathlib.Omega.{arith}
+use mathlib.Core.Path.{_≡_, refl, sym, ap, _∙_}
+use mathlib.Core.Bool.{Bool, true, false}
+use mathlib.Core.List.{List}
+use mathlib.Core.Option.{Option, none, some}
+use lib.ListN.{length, take, getD}
+use borrow.Author.Tests.{ne-eqb, le-leb}
+use Rattle.refusal.specs.Numbers.{wrongLength, notSound, noSuchSegment}
+use Rattle.refusal.specs.Answer.{Answer, refused, refusalFor, andThen}
+use Rattle.codes.specs.Places.{capacity}
+use Rattle.codes.specs.Block.{Content}
+use Rattle.writing.specs.Write.{writeRule, lengthOf, outputOf, paperWritten, Writes}
+use Rattle.writing.specs.declared.Written.{Written}
+use Rattle.writing.specs.declared.Written.the-variants as written
+use Rattle.blocks.specs.Block.{bookLength, blockOf}
+use Rattle.blocks.specs.Content.{contentOf}
+use Rattle.blocks.specs.Held.{heldContent}
+use Rattle.blocks.specs.declared.Held.{Held}
+use Rattle.blocks.proofs.Contents.{used-true}
+use Rattle.steps.specs.Book.{at}
+use Rattle.layout.specs.Layout.{bookOf}
+use Rattle.layout.specs.Sound.{used, isSound}
+use Rattle.layout.proofs.Parts.{sound-parts}
+use Rattle.layout.proofs.Said.{segment-of, segment-past}
+use Rattle.layout.proofs.Stands.{used-segment}
+use Rattle.layout.proofs.Back.{good-used}
+use Rattle.making.specs.Make.{segmentOf, writeOn, WritesOn}
+
+-- what the rule says gives the promise
+ruled : (l before after : List ℕ) (s : ℕ) (r : Written) (a : Answer (List ℕ)) → writeOn l s (length before) ≡ a → paperWritten r ≡ lengthOf a → after ≡ outputOf a before
+    → WritesOn l before after s r
+ruled l before after s r a e f g = record { answer = f ∙ ap lengthOf (sym e); output = g ∙ ap (λ (x : Answer (List ℕ)). outputOf x before) (sym e) }
+
+-- ---- the rule, at each way out
+rule-short : (l : List ℕ) (s room : ℕ) → (length l ≡ bookLength → ⊥) → writeOn l s room ≡ refused wrongLength 0
+unfolding writeOn andThen
+rule-short l s room h = rw (ne-eqb (length l) bookLength h)
+
+rule-broken : (l : List ℕ) (s room : ℕ) → length l ≡ bookLength → isSound l ≡ false → writeOn l s room ≡ refused notSound 0
+unfolding writeOn andThen
+rule-broken l s room h e = rw (h, e)
+
+rule-sound : (l : List ℕ) (s room : ℕ) → length l ≡ bookLength → isSound l ≡ true → (o : Option Content) → at (bookOf l .segments) s ≡ o
+    → writeOn l s room ≡ andThen (segmentOf o) (λ c. writeRule room (c .places) (c .purge))
+unfolding writeOn andThen
+rule-sound l s room h e o f = rw (h, e, f)
+
+-- ---- the ways out
+module _ (l before : List ℕ) (s : ℕ) where
+  pub write-short : (length l ≡ bookLength → ⊥) → (r : Written) → r ≡ written.Refused (refusalFor wrongLength 0) → WritesOn l before before s r
+  write-short h r e = ruled l before before s r (refused wrongLength 0) (rule-short l s (length before) h) (ap paperWritten e) refl
+
+  module _ (h : length l ≡ bookLength) where
+    pub write-broken : (b : Bool) → b ≡ isSound l → b ≡ false → (r : Written) → r ≡ written.Refused (refusalFor notSound 0) → WritesOn l before before s r
+    write-broken b f g r e = ruled l before before s r (refused notSound 0) (rule-broken l s (length before) h (sym f ∙ g)) (ap paperWritten e) refl
+
+    module _ (sound : isSound l ≡ true) where
+      no-segment : at (bookOf l .segments) s ≡ none → (r : Written) → r ≡ written.Refused (refusalFor noSuchSegment 0) → WritesOn l before before s r
+      unfolding andThen
+      no-segment f r e = ruled l before before s r (refused noSuchSegment 0) (rule-sound l s (length before) h sound none f) (ap paperWritten e) refl
+
+      pub write-low : s < 1 → (r : Written) → r ≡ written.Refused (refusalFor noSuchSegment 0) → WritesOn l before before s r
+      write-low g r e = let z : s ≡ 0 = omega arith in no-segment (ap (λ (k : ℕ). at (bookOf l .segments) k) z) r e
+
+      module _ (n : ℕ) (m : n ≡ getD l 4 0) where
+        pub write-far : 1 ≤ s → n < s → (r : Written) → r ≡ written.Refused (refusalFor noSuchSegment 0) → WritesOn l before before s r
+        write-far f g r e =
+            let z : s ≡ suc (s - 1) = omega arith in
+            no-segment (ap (λ (k : ℕ). at (bookOf l .segments) k) z ∙ segment-past l (s - 1) (omega arith)) r e
+
+        module _ (f : 1 ≤ s) (g : s ≤ n) where
+          z : s ≡ suc (s - 1)
+          z = omega arith
+
+          few-blocks : s ≤ 8
+          few-blocks = omega (arith, sound-parts l sound .eight)
+
+          pub write-block : s < 49
+          write-block = omega (arith, few-blocks)
+
+          -- a segment's count is in its range
+          pub write-few : getD (blockOf s l) 4 0 ≤ capacity
+          write-few =
+              let p = sound-parts l sound in
+              let b = few-blocks in
+              used-true _ (blockOf s l)
+              (good-used l p s f (omega arith) (ap (λ (k : ℕ). used l k) z ∙ used-segment l (s - 1) (omega arith) ∙ le-leb (suc (s - 1)) (getD l 4 0) (omega arith)))
+              .few
+
+          here : at (bookOf l .segments) s ≡ some (contentOf (blockOf s l))
+          here = ap (λ (k : ℕ). at (bookOf l .segments) k) z ∙ segment-of l (s - 1) (omega arith) ∙ ap (λ (k : ℕ). some (contentOf (blockOf k l))) (sym z)
+
+          pub write-one : (q : Held) → heldContent q ≡ contentOf (blockOf s l) → (after : List ℕ) (r : Written) → Writes before after (take (q .count - 0) (q .places)) (q .purge) r
+              → WritesOn l before after s r
+          unfolding andThen
+          write-one q e after r w =
+              let c : q .count - 0 ≡ q .count = omega arith in
+              let a : Answer (List ℕ) = writeRule (length before) (take (q .count) (q .places)) (q .purge) in
+              let v : writeRule (length before) (take (q .count - 0) (q .places)) (q .purge) ≡ a = ap (λ (k : ℕ). writeRule (length before) (take k (q .places)) (q .purge)) c in
+              ruled l before after s r a
+              (rule-sound l s (length before) h sound (some (contentOf (blockOf s l))) here
+              ∙ ap (λ (x : Content). writeRule (length before) (x .places) (x .purge)) (sym e))
+              (w .answer ∙ ap lengthOf v)
+              (w .output ∙ ap (λ (x : Answer (List ℕ)). outputOf x before) v)
