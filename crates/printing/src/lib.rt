@@ -1,6 +1,9 @@
-// The listing of a bulletin: its heading and each segment, or the refusal.
+// What the programs read and print: the time that a bulletin is read under, and the listing of a bulletin.
+ghost use mathlib.Core.Path.{_≡_};
 ghost use Prim.Native.Nat.{_≤_};
-ghost use lib.ListN.{length};
+ghost use lib.ListN.{length, getD};
+ghost use Rattle.lines.specs.Bytes.{digit};
+ghost use Rattle.printing.specs.Asked.{askedOf, paperAsked};
 use bulletin::Head;
 use bulletin::Reading;
 use bulletin::Segment;
@@ -12,11 +15,42 @@ use libc::STDOUT_FILENO;
 use refusal::Refusal;
 use writing::Written;
 
-fn say(text: &[u8]) {
+// The year and month that the first line names.
+pub enum Asked {
+    Month(usize, usize),
+    Wrong,
+}
+
+fn is_digit(input: &[u8], k: usize) -> bool
+    ensures { λ r. ⌜ r ≡ digit (getD (now (input .entry)) k 0) ⌝ }
+{
+    lines::digit(lines::byte(input, k))
+}
+
+// The year and month that the first line names.
+pub fn read_asked(input: &[u8]) -> Asked
+    ensures { λ r. ⌜ paperAsked r ≡ askedOf (now (input .entry)) ⌝ }
+{
+    let a = is_digit(input, 0);
+    let b = is_digit(input, 1);
+    let c = is_digit(input, 2);
+    let d = is_digit(input, 3);
+    let space = lines::byte(input, 4);
+    let e = is_digit(input, 5);
+    let f = is_digit(input, 6);
+    let end = lines::byte(input, 7);
+    if (a & b & c & d) & (space == 32) & (e & f) & (end == 10) {
+        let year = 100 * codes::two(input, 0) + codes::two(input, 2);
+        return Asked::Month(year, codes::two(input, 5));
+    }
+    Asked::Wrong
+}
+
+pub fn say(text: &[u8]) {
     io::write_all(STDOUT_FILENO, text);
 }
 
-fn say_number(n: usize) {
+pub fn say_number(n: usize) {
     io::print_decimal(STDOUT_FILENO, n as u64);
 }
 

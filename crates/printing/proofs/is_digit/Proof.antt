@@ -1,6 +1,6 @@
 use borrow.Author.Needs.{needs}
-use Rattle.listing.proofs.is_digit.Statement.{statement}
-use Rattle.listing.proofs.is_digit.Tie as tie
+use Rattle.printing.proofs.is_digit.Statement.{statement}
+use Rattle.printing.proofs.is_digit.Tie as tie
 
 byte-requires : tie.Need-byte-requires
 byte-requires c κs = search needs

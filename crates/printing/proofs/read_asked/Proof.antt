@@ -1,7 +1,7 @@
-use Rattle.listing.proofs.Laws.{asked-month, asked-wrong}
+use Rattle.printing.proofs.Asking.{asked-month, asked-wrong}
 use borrow.Author.Needs.{needs}
-use Rattle.listing.proofs.read_asked.Statement.{statement}
-use Rattle.listing.proofs.read_asked.Tie as tie
+use Rattle.printing.proofs.read_asked.Statement.{statement}
+use Rattle.printing.proofs.read_asked.Tie as tie
 
 is-digit-requires : tie.Need-is-digit-requires
 is-digit-requires c κs = search needs

@@ -7,8 +7,8 @@ use lib.ListN.{drop}
 use Rattle.lines.specs.Bytes.{Kind, digit, word, begins}
 use Rattle.heading.specs.Heading.{times}
 use Rattle.codes.specs.Places.{twoOf}
-use Rattle.listing.specs.declared.Asked.{Asked}
-use Rattle.listing.specs.declared.Asked.the-variants.{Month, Wrong}
+use Rattle.printing.specs.declared.Asked.{Asked}
+use Rattle.printing.specs.declared.Asked.the-variants.{Month, Wrong}
 
 abbrev pub askedForm : List Kind
 askedForm = times 4 digit ++ (word " " ++ (times 2 digit ++ word "\n"))

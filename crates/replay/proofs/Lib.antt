@@ -1,0 +1,5 @@
+mod Digits
+mod Ends
+mod Words
+mod Starts
+mod Sums

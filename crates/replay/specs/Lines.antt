@@ -1,0 +1,124 @@
+-- The input of the replay program: cases, each of two lines, a bulletin and call lines.
+use Prim.Native.Nat.{ℕ, zero, suc, _+_, _-_, _*_, _≤_, _<_}
+use mathlib.Core.List.{List, [], _∷_, _++_}
+use mathlib.Core.Bool.{Bool, true, cond, _&&_}
+use mathlib.Core.Option.{Option, none, some}
+use lib.ListN.{length, take, drop}
+use lib.Dec.{eqb, leb, ltb}
+use Rattle.lines.specs.Bytes.{Kind, lf, digit, word, begins}
+use Rattle.lines.specs.Lines.{glue}
+use Rattle.lines.specs.Spans.{part}
+use Rattle.heading.specs.Heading.{times}
+use Rattle.printing.specs.Asked.{YearMonth, askedOf}
+use Rattle.replay.specs.declared.Number.{Number}
+use Rattle.replay.specs.declared.Line.{Line}
+use Rattle.replay.specs.declared.Source.{Source}
+use Rattle.replay.specs.declared.Opening.{Opening}
+use Rattle.replay.specs.declared.Opening.the-variants.{Case, Wrong}
+
+-- ---- numbers: "Numbers are unsigned decimal, 1 to 10 digits, single spaces between."
+abbrev pub mostDigits : ℕ
+mostDigits = 10
+
+unfoldable pub every : Kind → List ℕ → Bool
+every k [] = true
+every k (b ∷ s) = k b && every k s
+
+unfoldable pub isNumber : List ℕ → Bool
+isNumber w = ltb 0 (length w) && leb (length w) mostDigits && every digit w
+
+-- the value of these digits behind others whose value is v
+unfoldable pub decimal : ℕ → List ℕ → ℕ
+decimal v [] = v
+decimal v (b ∷ s) = decimal (10 * v + (b - 48)) s
+
+-- the words of a line: what stands between single spaces
+unfoldable pub words : List ℕ → List (List ℕ)
+words [] = [] ∷ []
+words (b ∷ s) = cond (eqb b 32) ([] ∷ words s) (glue b (words s))
+
+unfoldable pub onto : ℕ → Option (List ℕ) → Option (List ℕ)
+onto n none = none
+onto n (some ns) = some (n ∷ ns)
+
+unfoldable pub numbersIn : List (List ℕ) → Option (List ℕ)
+numbersIn [] = some []
+numbersIn (w ∷ ws) = cond (isNumber w) (onto (decimal 0 w) (numbersIn ws)) none
+
+-- ---- call lines: a byte, and behind it numbers with a space before each
+unfoldable pub behind : List (List ℕ) → Option (List ℕ)
+behind [] = none
+behind ([] ∷ ws) = numbersIn ws
+behind ((b ∷ w) ∷ ws) = none
+
+unfoldable pub numbersOf : List ℕ → Option (List ℕ)
+numbersOf s = behind (words s)
+
+pub record CallLine : Type 0 where
+  pub kind : ℕ
+  pub numbers : List ℕ
+
+-- no line takes more numbers than `M d s DD HH MM`
+abbrev pub mostNumbers : ℕ
+mostNumbers = 5
+
+unfoldable pub called : ℕ → Option (List ℕ) → Option CallLine
+called k none = none
+called k (some ns) = cond (leb (length ns) mostNumbers) (some (record { kind = k; numbers = ns })) none
+
+unfoldable pub callLine : List ℕ → Option CallLine
+callLine [] = none
+callLine (k ∷ s) = called k (numbersOf s)
+
+-- "each ended by LF": the bytes before the next LF, or all of them
+unfoldable pub upTo : ℕ → List ℕ → List ℕ
+upTo sep [] = []
+upTo sep (b ∷ s) = cond (eqb b sep) [] (b ∷ upTo sep s)
+
+-- ---- a case's first two lines
+-- "NNNNN LF: five decimal digits: the bulletin's length in bytes"
+abbrev pub lengthForm : List Kind
+lengthForm = times 5 digit ++ word "\n"
+
+unfoldable pub lengthLine : List ℕ → Option ℕ
+lengthLine s = cond (begins lengthForm s) (some (decimal 0 (take 5 s))) none
+
+-- what a case is made of: the time, the bulletin, and the input behind it
+pub record Start : Type 0 where
+  pub year : ℕ
+  pub month : ℕ
+  pub bulletin : List ℕ
+  pub rest : List ℕ
+
+-- "A first line or a length line of another form, or fewer than NNNNN bytes after it": none
+abbrev pub starting : Option YearMonth → Option ℕ → List ℕ → Option Start
+starting none o s = none
+starting (some t) none s = none
+starting (some t) (some n) s = cond (leb n (length s)) (some (record { year = t .year; month = t .month; bulletin = take n s; rest = drop n s })) none
+
+unfoldable pub startOf : List ℕ → Option Start
+startOf s = starting (askedOf s) (lengthLine (drop 8 s)) (drop 14 s)
+
+-- ---- what the code's types mean
+-- how many digits stand at the front of s, at most n counted
+unfoldable pub front : ℕ → List ℕ → ℕ
+front zero s = zero
+front (suc n) [] = zero
+front (suc n) (b ∷ s) = cond (digit b) (suc (front n s)) zero
+
+-- the number that stands at the place `from`, and the place behind it
+abbrev pub numberAt : List ℕ → ℕ → Number
+numberAt s from =
+    record { value = decimal 0 (take (front mostDigits (drop from s)) (drop from s)); end = from + front mostDigits (drop from s) }
+
+abbrev pub paperLine : Line → Option CallLine
+paperLine l = cond (l .known) (some (record { kind = l .kind; numbers = take (l .count) (l .numbers) })) none
+
+abbrev pub paperOpening : List ℕ → Opening → Option Start
+paperOpening s (Case c) = some (record { year = c .year; month = c .month; bulletin = part s (c .start) (c .end); rest = drop (c .end) s })
+paperOpening s Wrong = none
+
+-- the case's call lines start behind `at`, and not behind the input's end
+abbrev pub within : ℕ → ℕ → Opening → Type 0
+within at n (Case c) = (at < c .end) × (c .end ≤ n)
+within at n Wrong = Unit {0}
