@@ -6,10 +6,10 @@ use mathlib.Core.List.{List, [], _∷_, _++_, append-assoc}
 use Prim.Native.Nat.{ℕ, zero, suc, _+_, _*_, _-_, _≤_, _<_}
 use native.Mathlib.Nat.{add-sub-cancel-left, suc-mul, le-of-suc-le-suc, not-suc-le-zero, suc-ne-zero}
 use native.Mathlib.Omega.{arith}
-use lib.ListN.{length, take, drop, getD, set, length-append, length-drop, length-set, take-append-drop}
+use lib.ListN.{length, take, drop, getD, set, length-drop, take-append-drop}
 use Rattle.blocks.proofs.Chunks.{set-append-right}
 use lib.Seq.{getD-take, getD-drop, set-append-left, take-at, drop-at, take-add, drop-drop, length-take-le, ext-getD, getD-set-same, getD-set-other}
-use borrow.Rule.Slice.PartMut.{putMid, midOf, same-len-mid}
+use borrow.Rule.Slice.PartMut.{putMid, same-len-mid}
 use Rattle.codes.specs.Places.{capacity}
 use Rattle.blocks.specs.Block.{blockOf, putBlock}
 

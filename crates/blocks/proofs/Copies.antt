@@ -1,41 +1,15 @@
 -- A copy within a list, one element a turn, and a list filled with zeros. Assumes nothing.
-use mathlib.Core.Path.{_≡_, refl, sym, ap, _∙_}
-use mathlib.Core.Logic.{_⊎_, inl, inr, ⊎-elim}
+use mathlib.Core.Path.{_≡_, refl, ap, _∙_}
+use mathlib.Core.Logic.{_⊎_, inl, inr}
 use mathlib.Core.List.{List, _++_, append-assoc, append-nil}
 use Prim.Native.Nat.{ℕ, _+_, _*_, _-_, _≤_, _<_}
-use native.Mathlib.Nat.{add-sub-of-le}
-use native.Mathlib.Numerals.{add-one}
 use native.Mathlib.Omega.{arith}
 use borrow.Author.Fill.{fill-more}
-use lib.ListN.{length, take, drop, getD, set, replicate, length-set, length-drop}
-use lib.Seq.{paste, paste-zero, paste-suc, length-paste-head, getD-append-add, getD-drop, drop-drop, drop-length}
+use lib.ListN.{length, drop, getD, set, replicate, length-set}
+use lib.Seq.{paste, paste-zero, drop-drop, drop-length}
 use Rattle.laws.proofs.Tests.{by-order}
-use Rattle.laws.proofs.Pastes.{paste-before}
+use Rattle.laws.proofs.Pastes.{copy-turn}
 use Rattle.blocks.specs.Block.{blockOf, putBlock, blockCount, bookLength}
-
-module _ {A : Type 0} (o : A) where
-  -- what stands after the copied part is as it was
-  paste-after : (d : List A) (at : ℕ) (s : List A) (n i : ℕ) → at ≤ length d → n ≤ length s → at + n ≤ i → getD (paste d at s n) i o ≡ getD d i o
-  paste-after d at s n i h m k =
-      let p : List A = take at d ++ take n s in
-      let l : length p ≡ at + n = length-paste-head d at s n h m in
-      let e : length p + (i - (at + n)) ≡ i = omega arith in
-      ap (λ (j : ℕ). getD (p ++ drop (at + n) d) j o) (sym e)
-      ∙ getD-append-add p (drop (at + n) d) (i - (at + n)) o
-      ∙ getD-drop (at + n) d (i - (at + n)) o
-      ∙ ap (λ (j : ℕ). getD d j o) (add-sub-of-le k)
-
-  -- a turn of a copy within one list, where the source does not overlap the target from below
-  copy-turn : (d : List A) (from to k : ℕ) → to + k < length d → from + k < length d → (from + k < to) ⊎ (to ≤ from)
-      → set (paste d to (drop from d) k) (to + k) (getD (paste d to (drop from d) k) (from + k) o) ≡ paste d to (drop from d) (k + 1)
-  copy-turn d from to k h g way =
-      let ls : length (drop from d) ≡ length d - from = length-drop from d in
-      let e : getD (paste d to (drop from d) k) (from + k) o ≡ getD (drop from d) k o =
-      ⊎-elim (λ w. paste-before o d to (drop from d) k (from + k) (omega arith) w) (λ w. paste-after d to (drop from d) k (from + k) (omega arith) (omega arith) (omega arith)) way
-      ∙ sym (getD-drop from d k o) in
-      ap (λ (v : A). set (paste d to (drop from d) k) (to + k) v) e
-      ∙ paste-suc d to (drop from d) k o h (omega arith)
-      ∙ ap (paste d to (drop from d)) (sym (add-one k))
 
 -- ---- block i over block j: k bytes are copied
 pub record Copying (d₀ d : List ℕ) (i j k : ℕ) : Type 0 where

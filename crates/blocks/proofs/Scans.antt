@@ -1,15 +1,16 @@
 -- Scans of a block: the check's sum, zeros, ascending numbers, two parts side by side. Assumes nothing.
 use Prim.Native.Nat.{ℕ, suc, _+_, _*_, _-_, _%_, _≤_, _<_}
-use native.Mathlib.Nat.{mul-le-mul, add-zero, add-assoc, sub-zero}
+use native.Mathlib.Nat.{mul-le-mul, add-zero, sub-zero}
 use native.Mathlib.Numerals.{add-one}
 use native.Mathlib.Omega.{arith}
 use mathlib.Core.Path.{_≡_, refl, sym, ap, _∙_}
 use mathlib.Core.Bool.{true, false, _&&_}
 use mathlib.Core.List.{List, _∷_}
 use lib.ListN.{length, drop, getD, drop-of-length-le}
-use lib.Seq.{slice, slice-cons, slice-empty, getD-drop, drop-drop, drop-cons}
+use lib.Seq.{slice, slice-cons, slice-empty, drop-drop, drop-cons}
 use lib.Dec.{eqb, ltb, leb}
 use borrow.Author.Tests.{eq-eqb, ne-eqb, lt-ltb, le-ltb, le-leb, lt-leb}
+use Rattle.blocks.proofs.Numbers.{number-drop}
 use Rattle.codes.specs.Places.{ascends, placesEnd}
 use Rattle.blocks.specs.Block.{sumTo, checkOf, checked, allZero, numberAt, numbersOf, sameList}
 
@@ -85,10 +86,6 @@ pub record Rising (b : List ℕ) (n k least : ℕ) : Type 0 where
 pub rising-start : (b : List ℕ) (n : ℕ) → Rising b n 0 0
 rising-start b n = record { left = omega arith; rest = rw sub-zero }
 
--- a number behind o bytes
-pub number-drop : (o at : ℕ) (b : List ℕ) → numberAt (drop o b) at ≡ numberAt b (o + at)
-number-drop o at b = simp (getD-drop, add-assoc)
-
 -- the numbers from number k on
 numbers-on : (b : List ℕ) (n k : ℕ) → k < n
     → numbersOf (n - k) (drop (8 + 4 * k) b) ≡ numberAt b (8 + 4 * k) ∷ numbersOf (n - (k + 1)) (drop (8 + 4 * (k + 1)) b)
@@ -98,7 +95,7 @@ numbers-on b n k h =
     let o : 8 + 4 * k + 4 ≡ 8 + 4 * (k + 1) = omega arith in
     ap (λ (j : ℕ). numbersOf j (drop (8 + 4 * k) b)) m
     ∙ ap (λ (z : List ℕ). numberAt (drop (8 + 4 * k) b) 0 ∷ numbersOf (n - (k + 1)) z) (drop-drop 4 (8 + 4 * k) b ∙ ap (λ (j : ℕ). drop j b) o)
-    ∙ ap (λ (x : ℕ). x ∷ numbersOf (n - (k + 1)) (drop (8 + 4 * (k + 1)) b)) (number-drop (8 + 4 * k) 0 b ∙ ap (λ (o : ℕ). numberAt b o) (add-zero (8 + 4 * k)))
+    ∙ ap (λ (x : ℕ). x ∷ numbersOf (n - (k + 1)) (drop (8 + 4 * (k + 1)) b)) (number-drop (8 + 4 * k) b 0 ∙ ap (λ (o : ℕ). numberAt b o) (add-zero (8 + 4 * k)))
 
 module _ (b : List ℕ) (n k least : ℕ) (v : Rising b n k least) where
   pub rising-done : n ≤ k → true ≡ ascends 0 (numbersOf n (drop 8 b))

@@ -7,12 +7,13 @@ use native.Mathlib.Numerals.{add-one}
 use native.Mathlib.Omega.{arith}
 use lib.ListN.{length, take, drop, getD, set, replicate, length-set, length-replicate, replicate-append-replicate}
 use lib.Seq.{sets, sets-eq, length-sets, drop-drop, drop-at, take-suc, take-length, length-take-le}
+use Rattle.blocks.proofs.Chunks.{flat-length}
+use Rattle.blocks.proofs.Numbers.{number-drop}
 use Rattle.laws.proofs.Stores.{sets-then, push-text}
 use Rattle.codes.specs.Places.{capacity}
 use Rattle.codes.specs.Block.{Content}
 use Rattle.blocks.specs.Block.{bytes32, numberAt, numbersOf, flat, sealed, blockLength}
 use Rattle.blocks.specs.Content.{contentBytes, contentOf, holding}
-use Rattle.blocks.proofs.Scans.{number-drop}
 
 -- ---- numbers read: i of them
 numbers-suc : (i : ℕ) (l : List ℕ) → numbersOf (suc i) l ≡ numbersOf i l ++ (numberAt l (4 * i) ∷ [])
@@ -22,7 +23,7 @@ numbers-suc (suc i) l =
     let e : 4 + 4 * i ≡ 4 * suc i = omega arith in
     ap (λ (r : List ℕ). numberAt l 0 ∷ r)
     (numbers-suc i (drop 4 l)
-    ∙ ap (λ (x : ℕ). numbersOf i (drop 4 l) ++ (x ∷ [])) (number-drop 4 (4 * i) l ∙ ap (λ (j : ℕ). numberAt l j) e))
+    ∙ ap (λ (x : ℕ). numbersOf i (drop 4 l) ++ (x ∷ [])) (number-drop 4 l (4 * i) ∙ ap (λ (j : ℕ). numberAt l j) e))
 
 pub record Reading (b : List ℕ) (n : ℕ) (into₀ into : List ℕ) (i : ℕ) : Type 0 where
   pub left : i ≤ n
@@ -42,7 +43,7 @@ module _ (b : List ℕ) (n : ℕ) (into₀ into : List ℕ) (i : ℕ) (v : Readi
         long = simp length-set (v .long);
         got =
             push-text into i x (omega arith)
-            ∙ ap₂ (λ (p : List ℕ) (y : ℕ). p ++ (y ∷ [])) (v .got) (e ∙ sym (number-drop 8 (4 * i) b))
+            ∙ ap₂ (λ (p : List ℕ) (y : ℕ). p ++ (y ∷ [])) (v .got) (e ∙ sym (number-drop 8 b (4 * i)))
             ∙ sym (numbers-suc i (drop 8 b))
             ∙ ap (λ (j : ℕ). numbersOf j (drop 8 b)) (sym (add-one i));
       }
@@ -72,11 +73,6 @@ unfolding flat
 flat-snoc [] x = append-nil (bytes32 x)
 flat-snoc (y ∷ xs) x = ap (λ (r : List ℕ). bytes32 y ++ r) (flat-snoc xs x) ∙ sym (append-assoc (bytes32 y) (flat bytes32 xs) (bytes32 x))
 
-numbers-length : (xs : List ℕ) → length (flat bytes32 xs) ≡ 4 * length xs
-unfolding flat
-numbers-length [] = refl
-numbers-length (x ∷ xs) = omega (arith, numbers-length xs)
-
 pub record Putting (b₀ b places : List ℕ) (i : ℕ) : Type 0 where
   pub left : i ≤ length places
   pub long : length b ≡ length b₀
@@ -91,7 +87,7 @@ module _ (b₀ b places : List ℕ) (i : ℕ) (v : Putting b₀ b places i) wher
   putting-on h d e =
       let s : List ℕ = flat bytes32 (take i places) in
       let t : length (take i places) ≡ i = length-take-le i places (omega arith) in
-      let m : length s ≡ 4 * length (take i places) = numbers-length (take i places) in
+      let m : length s ≡ 4 * length (take i places) = omega (arith, flat-length bytes32 4 (λ (n : ℕ). refl) (take i places)) in
       let j : 8 + 4 * i ≡ 8 + length s = omega arith in
       record {
         left = omega arith;
@@ -129,7 +125,7 @@ unfolding contentBytes front
 content-stored p places h =
     let n : ℕ = length places in
     let f : List ℕ = flat bytes32 places in
-    let m : length f ≡ 4 * n = numbers-length places in
+    let m : length f ≡ 4 * n = omega (arith, flat-length bytes32 4 (λ (n : ℕ). refl) places) in
     ap (λ (l : List ℕ). sets l 8 f) (front-stored p n)
     ∙ sets-eq f (front p n ++ replicate 504 0) 8 (omega (arith, length-replicate {A = ℕ} 504 0))
     ∙ ap (λ (r : List ℕ). front p n ++ (f ++ r))

@@ -416,7 +416,7 @@ pub fn read(text: &[u8], year: usize, month: usize) -> Bulletin
     }
 }
 
-enum Viewed {
+pub enum Viewed {
     One(Segment),
     Refused(Refusal),
 }
@@ -429,7 +429,7 @@ fn no_such_segment() -> Viewed
 }
 
 // Segment n of the bulletin, counted from 1.
-fn find_segment(text: &[u8], year: usize, month: usize, n: usize) -> Viewed
+pub fn find_segment(text: &[u8], year: usize, month: usize, n: usize) -> Viewed
     ensures { λ r. ⌜ paperViewed r ≡ viewOf (now (text .entry)) year month n ⌝ }
 {
     let bulletin = read(text, year, month);

@@ -53,7 +53,7 @@ pub kind-c : (f : ℕ) → (f ≡ 90 → ⊥) → _≡_ {A = ℕ} 0 (cond (eqb f
 kind-c f e = simp (ne-eqb f 90 e)
 
 -- ---- the forms, by their length and their bytes
-at-byte : (s : List ℕ) (i c : ℕ) → eqb 0 c ≡ false → begins (literally (c ∷ [])) (drop i s) ≡ eqb (getD s i 0) c
+pub at-byte : (s : List ℕ) (i c : ℕ) → eqb 0 c ≡ false → begins (literally (c ∷ [])) (drop i s) ≡ eqb (getD s i 0) c
 at-byte s i c h = begins-is (literally (c ∷ [])) s i (h, tt) ∙ and-true (eqb (getD s i 0) c)
 
 pub single-is : (s : List ℕ) → exactly singleForm s ≡ (eqb (length s) 4 && (begins threeDigits (drop 0 s) && eqb (getD s 3 0) 45))

@@ -1,5 +1,6 @@
 pub mod Forms
 pub mod Steps
 pub mod Members
+pub mod Sets
 pub mod Bounds
 pub mod Turns

@@ -5,7 +5,7 @@ use mathlib.Core.Path.{_≡_, refl, sym, ap, ap₂, subst, _∙_}
 use mathlib.Core.List.{List}
 use mathlib.Core.Bool.{Bool, true, false}
 use mathlib.Core.Option.{Option, none, some}
-use lib.ListN.{length, getD}
+use lib.ListN.{length, getD, List·getD-eq-default}
 use lib.Dec.{eqb}
 use borrow.Author.Tests.{eqb-true, eq-eqb}
 use Rattle.laws.proofs.Tests.{by, by-order, apart}
@@ -26,8 +26,7 @@ use Rattle.steps.specs.Calls.{Edit, Work, editing, Call, on, Answer, refused, e
 use Rattle.layout.specs.Layout.{copiesOf, bytesOf, bookOf}
 use Rattle.layout.specs.Sound.{isSound}
 use Rattle.layout.specs.Rule.{leaving, onBytes}
-use Rattle.layout.proofs.Items.{get-past}
-use Rattle.moves.proofs.Parts.{draft-get}
+use Rattle.layout.proofs.ForthIndex.{or-closed}
 use Rattle.drafts.specs.Admission.{must, isOpen, exists, admission}
 use Rattle.drafts.specs.Copies.{indexOf, blockIn, copyBlock, Admitted}
 use Rattle.drafts.proofs.Finds.{open-far}
@@ -52,11 +51,11 @@ pub opened-at : (ds : List Draft) (d : ℕ) → isOpen (draftAt ds d) ≡ true �
 opened-at ds zero e = apart cc
 opened-at ds (suc k) e =
     let w = working-of (draftAt ds (suc k)) e in
-    let here : getD ds k closed ≡ working (w .0) (w .1) = sym (draft-get ds k) ∙ w .2 in
+    let here : getD ds k closed ≡ working (w .0) (w .1) = sym (or-closed ds k) ∙ w .2 in
     record {
       k = k;
       is = refl;
-      low = by-order k (length ds) (λ h. h) (λ h. apart (let z : closed ≡ working (w .0) (w .1) = sym (get-past closed ds k h) ∙ here in cc));
+      low = by-order k (length ds) (λ h. h) (λ h. apart (let z : closed ≡ working (w .0) (w .1) = sym (List·getD-eq-default ds closed h) ∙ here in cc));
       ks = w .0;
       stale = w .1;
       here = here;

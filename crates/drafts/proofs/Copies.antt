@@ -10,6 +10,7 @@ use lib.ListN.{length, getD, getElem?, set, length-set}
 use lib.Dec.{eqb}
 use borrow.Author.Tests.{eqb-true}
 use Rattle.laws.proofs.Tests.{by, apart}
+use Rattle.laws.proofs.Lookups.{get-same, get-other, get-low}
 use Rattle.codes.specs.Places.{capacity}
 use Rattle.codes.specs.Block.{Content}
 use Rattle.blocks.specs.Block.{putBlock, flat}
@@ -17,10 +18,14 @@ use Rattle.blocks.specs.Content.{holding}
 use Rattle.blocks.proofs.Contents.{used-length}
 use Rattle.steps.specs.Book.{Copy, Draft, closed, working, Book}
 use Rattle.steps.specs.Calls.{copyOf, recopy, has, withDrafts}
-use Rattle.layout.specs.Layout.{segmentOf, bit, draftBytes, copiesOf, heldOf, heldIn, copy, partOf, indexBytes, blockBytes, front, back}
+use Rattle.layout.specs.Layout.{segmentOf, bit, draftBytes, copiesOf, heldOf, heldIn, copy, partOf, indexBytes, front, back}
 use Rattle.layout.specs.Sound.{Distinct, first-once}
 use Rattle.layout.specs.Lies.{Lies}
-use Rattle.moves.proofs.Parts.{lies-stands, stands-put, stands-lies, part-copy, block-of-copy, get-same, get-other, held-put, held-new, draft-get}
+use Rattle.layout.proofs.Stands.{part-copy}
+use Rattle.layout.proofs.ForthIndex.{or-closed}
+use Rattle.moves.proofs.Parts.{block-of-copy, held-put, held-new}
+use Rattle.moves.proofs.StepsStands.{upd-at, stands-put}
+use Rattle.moves.proofs.StepsLies.{partsIn, lies-stands, stands-lies}
 use Rattle.drafts.specs.Copies.{later, indexOf}
 
 -- ---- the copy of a segment
@@ -143,12 +148,7 @@ module _ (l : List ℕ) (b : Book) (lies : Lies l b) (k : ℕ) (ks : List Copy) 
   in-drafts = omega (arith, lies .four)
 
   n-low : n < length ks
-  n-low = low-index ks n (v .here)
-    where
-      low-index : (ks : List Copy) (n : ℕ) {q : Copy} → getElem? ks n ≡ some q → n < length ks
-      low-index [] n e = apart cc
-      low-index (k ∷ ks) zero e = omega arith
-      low-index (k ∷ ks) (suc n) e = let h = low-index ks n e in omega arith
+  n-low = get-low ks n (v .here)
 
   new-here : heldOf (getElem? (recopy s c ks) n) ≡ some c
   new-here = ap (λ (r : List Copy). heldOf (getElem? r n)) (v .again c x) ∙ ap heldOf (get-same ks n (record { segment = s; held = c }) n-low)
@@ -165,30 +165,26 @@ module _ (l : List ℕ) (b : Book) (lies : Lies l b) (k : ℕ) (ks : List Copy) 
 
   old-copy : (m : ℕ) → heldIn b (copy k m) ≡ heldOf (getElem? ks m)
   unfolding heldIn
-  old-copy m = ap (λ (d : Draft). heldOf (getElem? (copiesOf d) m)) (draft-get (b .drafts) k ∙ opened)
+  old-copy m = ap (λ (d : Draft). heldOf (getElem? (copiesOf d) m)) (or-closed (b .drafts) k ∙ opened)
 
-  here : blockBytes later-book (suc at-copy) ≡ holding (some c)
-  unfolding blockBytes
-  here =
-      let e : suc at-copy ≡ 9 + 2 * k + n = omega arith in
-      ap (λ (i : ℕ). holding (heldIn later-book (partOf i))) e ∙ ap (λ p. holding (heldIn later-book p)) (part-copy k n low two)
-      ∙ ap holding (held-new b k new in-drafts n ∙ new-here)
+  here : (j : ℕ) → j ≡ at-copy → partsIn later-book j ≡ some c
+  here j z =
+      let e : suc j ≡ 9 + 2 * k + n = omega arith in
+      ap (heldIn later-book) (ap partOf e ∙ part-copy k n low two) ∙ held-new b k new in-drafts n ∙ new-here
 
-  there : (j : ℕ) → j < 48 → j ≢ at-copy → blockBytes later-book (suc j) ≡ blockBytes b (suc j)
-  unfolding blockBytes
-  there j h d =
-      ap holding
-      (held-put b k new in-drafts (partOf (suc j))
+  there : (j : ℕ) → j ≢ at-copy → partsIn later-book j ≡ partsIn b j
+  there j d =
+      held-put b k new in-drafts (partOf (suc j))
       λ m e.
       let q = block-of-copy (suc j) k m e in
       let apart : m ≢ n = λ z. d (omega (arith, q .0)) in
-      new-other m apart ∙ sym (ap (heldIn b) e ∙ old-copy m))
+      new-other m apart ∙ sym (ap (heldIn b) e ∙ old-copy m)
 
   pub changed-lies : Lies (putBlock (9 + 2 * k + n) (holding (some c)) l) (withDrafts b (set (b .drafts) k (working (recopy s c ks) stale)))
   changed-lies =
       let e : suc at-copy ≡ 9 + 2 * k + n = omega arith in
-      let stands = stands-put l (indexBytes b) (λ i. blockBytes b (suc i)) (lies-stands l b lies) at-copy (holding (some c)) (λ i. blockBytes later-book (suc i))
-      (omega arith) (used-length c few) here there in
+      let stands = stands-put (lies-stands l b lies) at-copy (holding (some c)) (some c) (omega arith) (used-length c few) refl in
       subst (λ (i : ℕ). Lies (putBlock i (holding (some c)) l) later-book) e
-      (stands-lies (putBlock (suc at-copy) (holding (some c)) l) (indexBytes b) (λ i. blockBytes later-book (suc i)) stands later-book
-      (sym (index-same b k new bytes-same)) (λ i g. refl) (length-set (b .drafts) k new ∙ lies .four) (lies .sixteen))
+      (stands-lies stands later-book (length-set (b .drafts) k new ∙ lies .four) (lies .sixteen)
+      (λ i g. ap (λ (z : List ℕ). getD z i 0) (sym (index-same b k new bytes-same)))
+      (λ i g. upd-at (partsIn b) at-copy (some c) i (partsIn later-book i) (λ q. sym (here i q)) (λ d. sym (there i d))))

@@ -9,7 +9,7 @@ use lib.ListN.{length, getD, take, drop, set, length-set}
 use lib.Seq.{slice, slice-empty, slice-cons, take-suc, take-set-lt, drop-set-lt, take-suc-set, append-snoc}
 use lib.Dec.{ltb, leb}
 use borrow.Author.Tests.{eq-eqb, ne-eqb, leb-true, le-leb, ltb-true, lt-ltb}
-use Rattle.laws.proofs.Tests.{by, and-left, and-right}
+use Rattle.laws.proofs.Tests.{and-left, and-right}
 use Rattle.codes.specs.Places.{placesEnd, capacity, ascends}
 use Rattle.codes.specs.Block.{insert}
 use Rattle.codes.proofs.Members.{insert-before, insert-after}

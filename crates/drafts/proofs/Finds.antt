@@ -2,6 +2,7 @@
 use Prim.Native.Nat.{ℕ, zero, suc, _+_, _*_, _≤_, _<_}
 use native.Mathlib.Omega.{arith}
 use mathlib.Core.Path.{_≡_, sym, ap, ap₂, _∙_}
+use mathlib.Core.Logic.{_≢_}
 use mathlib.Core.List.{List}
 use mathlib.Core.Bool.{Bool, true, false, cond, not}
 use mathlib.Core.Option.{none, some}
@@ -9,6 +10,7 @@ use lib.ListN.{length, getD}
 use lib.Dec.{eqb, leb}
 use borrow.Author.Tests.{eqb-true, eqb-false, eq-eqb, ne-eqb, le-leb, lt-leb, not-true, not-false}
 use Rattle.laws.proofs.Tests.{by, by-order, impossible, apart}
+use Rattle.laws.proofs.Lookups.{get-none}
 use Rattle.refusal.specs.Numbers.{wrongLength, notSound, noDraft, noSuchSegment, outOfRange}
 use Rattle.refusal.specs.Answer.{andThen, refusalFor, paperVerdict}
 use Rattle.refusal.specs.declared.Verdict.{Verdict}
@@ -17,10 +19,8 @@ use Rattle.blocks.specs.Block.{bookLength}
 use Rattle.steps.specs.Book.{Copy, Draft, closed, at, orClosed, draftAt}
 use Rattle.layout.specs.Layout.{copiesOf, copiesAt, draftOf, bookOf}
 use Rattle.layout.specs.Sound.{isSound}
-use Rattle.layout.proofs.Items.{get-none}
 use Rattle.layout.proofs.Parts.{sound-parts, draft-cases}
 use Rattle.layout.proofs.Said.{drafts-length, draft-of, segment-of, segment-past, copies-none, copies-one, copies-two}
-use Rattle.layout.proofs.Says.{two}
 use Rattle.layout.proofs.Shown.{second-needs}
 use Rattle.drafts.specs.Admission.{isOpen, exists, admission}
 use Rattle.drafts.specs.Copies.{indexOf, blockIn, copyBlock, paperFound, Admitted}
@@ -111,15 +111,12 @@ two-copies l first second k s h need =
     by (eqb first 0)
     (λ t. let z : first ≡ 0 = eqb-true first 0 t in let y = need z in
     rw (ne-eqb s first (λ q. omega arith), ne-eqb s second (λ q. omega arith), copies-none l first second k z))
-    (λ t. let f : 1 ≤ first = positive first t in
+    (λ t. let p : first ≢ 0 = eqb-false first 0 t in let f : 1 ≤ first = omega arith in
     by (eqb second 0)
     (λ u. let y : second ≡ 0 = eqb-true second 0 u in
     rw (ne-eqb s second (λ q. omega arith), copies-one l first second k f y))
-    (λ u. let g : 1 ≤ second = positive second u in
+    (λ u. let q : second ≢ 0 = eqb-false second 0 u in let g : 1 ≤ second = omega arith in
     rw (copies-two l first second k f g) (by (eqb s second) (λ v. rw v) (λ v. rw v))))
-  where
-    positive : (m : ℕ) → eqb m 0 ≡ false → 1 ≤ m
-    positive m d = by-order m 1 (λ h. let z : m ≡ 0 = omega arith in impossible (eqb-false m 0 d z)) (λ h. h)
 
 module _ (l : List ℕ) where
   taken-is : (k s : ℕ) → k < 4 → 1 ≤ s → isSound l ≡ true → isOpen (draftOf l k) ≡ true

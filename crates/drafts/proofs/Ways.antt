@@ -10,6 +10,7 @@ use lib.ListN.{length, getD, take, drop}
 use lib.Seq.{length-take-le, getD-take}
 use lib.Dec.{eqb, leb, ltb}
 use borrow.Author.Tests.{ltb-true, le-leb, lt-leb, eq-eqb, ne-eqb, not-true, not-false}
+use Rattle.laws.proofs.Lookups.{get-some, get-none}
 use Rattle.refusal.specs.Numbers.{notTaken, outOfRange, wrongTime, segmentFull, onlyPlace}
 use Rattle.refusal.specs.Answer.{ok, no, refusalFor, paperVerdict, paperRefusal}
 use Rattle.refusal.specs.declared.Refusal.{Refusal}
@@ -30,7 +31,6 @@ use Rattle.blocks.specs.Held.{heldContent, Fits}
 use Rattle.blocks.specs.declared.Held.{Held}
 use Rattle.blocks.proofs.Numbers.{Bytes}
 use Rattle.steps.specs.Calls.{Edit, readPurge, readCount, readPlace, add, remove, setPurge, editing, on, Answer, edited, inRange, number, was, placeAt, purging, adding, removing, member, without}
-use Rattle.layout.proofs.Items.{get-some, get-none}
 use Rattle.layout.specs.Rule.{onBytes, paperReply}
 use Rattle.layout.specs.declared.Reply.{Reply}
 use Rattle.layout.specs.declared.Reply.the-variants as reply

@@ -1,15 +1,16 @@
 -- Work on a draft's copy: what the call on the book's bytes answers and leaves. Assumes nothing.
-use Prim.Native.Nat.{ℕ, zero, suc, _+_, _*_, _-_, _≤_, _<_}
+use Prim.Native.Nat.{ℕ, suc, _+_, _*_, _-_, _≤_, _<_}
 use native.Mathlib.Omega.{arith}
 use mathlib.Core.Path.{_≡_, sym, ap, ap₂, subst, _∙_}
-use mathlib.Core.List.{List, [], _∷_}
+use mathlib.Core.List.{List}
 use mathlib.Core.Bool.{Bool, true}
 use mathlib.Core.Option.{Option, none, some}
 use lib.ListN.{length, getD, getElem?, set, take-append-drop}
 use lib.Seq.{set-getD}
 use borrow.Author.Tests.{eq-eqb}
 use Rattle.laws.proofs.Tests.{apart}
-use Rattle.laws.proofs.Lists.{All, all-nil, all-cons}
+use Rattle.laws.proofs.Lists.{all-get, all-found}
+use Rattle.laws.proofs.Lookups.{get-low}
 use Rattle.refusal.specs.Numbers.{notTaken}
 use Rattle.codes.specs.Places.{capacity}
 use Rattle.codes.specs.Block.{Content}
@@ -20,18 +21,17 @@ use Rattle.blocks.proofs.Numbers.{Bytes}
 use Rattle.blocks.proofs.Contents.{used-length}
 use Rattle.steps.specs.Book.{Copy, Draft, closed, working, Book, at}
 use Rattle.steps.specs.Calls.{Edit, Work, editing, Call, on, Answer, refused, edited, inRange, copyOf, recopy, works, ranged, work, acts, withDrafts, step}
-use Rattle.layout.specs.Layout.{heldOf, heldIn, copiesOf, copy, partOf, blockBytes, bytesOf, bookOf}
+use Rattle.layout.specs.Layout.{heldOf, heldIn, copiesOf, partOf, blockBytes, bytesOf, bookOf}
 use Rattle.layout.specs.Sound.{isSound, FineTaken, FineDraft, closed-fine, working-fine, Sound}
 use Rattle.layout.specs.Rule.{leaving, onBytes}
 use Rattle.layout.specs.Lies.{Lies}
 use Rattle.layout.proofs.ForthBlocks.{lies-sealed}
-use Rattle.layout.proofs.Items.{all-get}
-use Rattle.layout.proofs.ForthParts.{part-copy}
+use Rattle.layout.proofs.Stands.{part-copy}
 use Rattle.layout.proofs.Parts.{sound-parts}
 use Rattle.layout.proofs.IndexBack.{index-sealed}
 use Rattle.layout.proofs.Back.{sound-lies}
 use Rattle.layout.proofs.SoundBack.{sound-book}
-use Rattle.moves.proofs.Parts.{draft-get}
+use Rattle.layout.proofs.ForthIndex.{or-closed}
 use Rattle.drafts.proofs.Copies.{Indexed, recopy-same, changed-lies}
 
 -- ---- what is known of sound bytes
@@ -67,14 +67,6 @@ fine-taken : {issue n : ℕ} {d : Draft} {ks : List Copy} {stale : Bool} → Fin
 fine-taken closed-fine e = apart cc
 fine-taken {issue} {n} (working-fine f) e = subst (TakenBy issue n) e f
 
-all-some : {A : Type 0} {P : A → Type 0} {xs : List A} (i : ℕ) {x : A} → All P xs → getElem? xs i ≡ some x → P x
-all-some i all-nil e = apart cc
-all-some {P} zero (all-cons p a) e = subst P (some-is e) p
-  where
-    some-is : {A : Type 0} {x y : A} → some x ≡ some y → x ≡ y
-    some-is e = cc
-all-some (suc i) (all-cons p a) e = all-some i a e
-
 module _ (l : List ℕ) (base : Base l) (k : ℕ) (ks : List Copy) (stale : Bool) (low : k < 4) (opened : getD (bookOf l .drafts) k closed ≡ working ks stale)
     (s : ℕ) (c₀ : Content) (there : at (bookOf l .segments) s ≡ some c₀) where
   abbrev b : Book
@@ -85,7 +77,7 @@ module _ (l : List ℕ) (base : Base l) (k : ℕ) (ks : List Copy) (stale : Bool
 
   step-is : (w : Work) → step b (on (suc k) s w) ≡ acts b (suc k) s w (working ks stale)
   unfolding step
-  step-is w = ap (acts b (suc k) s w) (draft-get (b .drafts) k ∙ opened)
+  step-is w = ap (acts b (suc k) s w) (or-closed (b .drafts) k ∙ opened)
 
   bytes-is : (c : Call) → onBytes l c ≡ leaving (step b c)
   unfolding onBytes
@@ -153,15 +145,10 @@ module _ (l : List ℕ) (base : Base l) (k : ℕ) (ks : List Copy) (stale : Bool
   -- the copy's block
   module _ (n : ℕ) (v : Indexed s ks n) where
     pub copy-two : n < 2
-    copy-two = omega (arith, taken .two, low-index ks n (v .here))
-      where
-        low-index : (ks : List Copy) (n : ℕ) {q : Copy} → getElem? ks n ≡ some q → n < length ks
-        low-index [] n e = apart cc
-        low-index (k ∷ ks) zero e = omega arith
-        low-index (k ∷ ks) (suc n) e = let h = low-index ks n e in omega arith
+    copy-two = omega (arith, taken .two, get-low ks n (v .here))
 
     pub copy-fine : isContent (b .issue) (v .held) ≡ true
-    copy-fine = all-some n (taken .copies) (v .here) .fine
+    copy-fine = all-found n (taken .copies) (v .here) .fine
 
     pub copy-block : blockOf (9 + 2 * k + n) l ≡ holding (some (v .held))
     unfolding blockBytes heldIn
@@ -171,5 +158,5 @@ module _ (l : List ℕ) (base : Base l) (k : ℕ) (ks : List Copy) (stale : Bool
         ap (λ (i : ℕ). blockOf i l) e ∙ base .lies .blocks (8 + 2 * k + n) (omega (arith, copy-two))
         ∙ ap (λ (i : ℕ). holding (heldIn b (partOf i))) (sym e)
         ∙ ap (λ p. holding (heldIn b p)) (part-copy k n low copy-two)
-        ∙ ap (λ (d : Draft). holding (heldOf (getElem? (copiesOf d) n))) (draft-get (b .drafts) k ∙ opened)
+        ∙ ap (λ (d : Draft). holding (heldOf (getElem? (copiesOf d) n))) (or-closed (b .drafts) k ∙ opened)
         ∙ ap (λ o. holding (heldOf o)) (v .here)

@@ -9,8 +9,9 @@ use lib.ListN.{length, getD, drop, drop-of-length-le}
 use lib.Seq.{drop-cons, drop-drop}
 use lib.Dec.{eqb}
 use borrow.Author.Tests.{lt-leb, eqb-true}
+use Rattle.codes.proofs.Forms.{at-byte}
 use Rattle.laws.proofs.Tests.{apart, and-left, and-right}
-use Rattle.lines.specs.Bytes.{between, capital, digit, literally, word, begins, exactly}
+use Rattle.lines.specs.Bytes.{between, capital, digit, word, begins, exactly}
 use Rattle.lines.proofs.Strings.{begins-is, begins-append, exactly-is}
 use Rattle.calendar.specs.Calendar.{isTime}
 use Rattle.codes.specs.Places.{twoOf}
@@ -49,10 +50,6 @@ module _ (s : List ℕ) (k n low high j : ℕ) (v : Ran s k n low high j) where
 
     pub ran-no : t ≡ false → false ≡ begins (times n (between low high)) (drop k s)
     ran-no y = sym (v .same ∙ one ∙ rw y)
-
--- one fixed byte
-pub at-byte : (s : List ℕ) (i c : ℕ) → eqb 0 c ≡ false → begins (literally (c ∷ [])) (drop i s) ≡ eqb (getD s i 0) c
-at-byte s i c h = begins-is (literally (c ∷ [])) s i (h, tt) ∙ and-true (eqb (getD s i 0) c)
 
 -- ---- `TTAAii CCCC DDHHMM`
 pub headed-by : (s : List ℕ) (a b d f : Bool) (c e : ℕ)

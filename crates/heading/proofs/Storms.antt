@@ -7,6 +7,7 @@ use mathlib.Core.Bool.{Bool, true, false, _&&_, _||_, and-assoc}
 use lib.ListN.{length, getD, drop, length-drop}
 use lib.Seq.{drop-drop, take-all}
 use lib.Dec.{eqb}
+use Rattle.codes.proofs.Forms.{at-byte}
 use Rattle.lines.specs.Bytes.{between, capital, digit, word, begins}
 use Rattle.lines.specs.Spans.{part}
 use Rattle.lines.proofs.Strings.{begins-append, exactly-is}
@@ -25,7 +26,6 @@ use Rattle.heading.specs.declared.ClassFound.the-variants as class
 use Rattle.heading.specs.declared.Storm.the-variants as found
 use Rattle.heading.specs.declared.Named.{Named}
 use Rattle.heading.specs.declared.Named.the-variants.{Right, Wrong}
-use Rattle.heading.proofs.Forms.{at-byte}
 
 pub office-by : (s : List ℕ) (a b : Bool) → a ≡ begins (word "NATIONAL WEATHER SERVICE ") s → b ≡ begins (word "NWS ") s → (a || b) ≡ isOffice s
 unfolding isOffice

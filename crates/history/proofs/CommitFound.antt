@@ -10,6 +10,8 @@ use lib.ListN.{length, getD, getElem?}
 use lib.Dec.{eqb, ltb}
 use borrow.Author.Tests.{eq-eqb, ne-eqb, eqb-true, lt-ltb, le-ltb}
 use Rattle.laws.proofs.Tests.{by, impossible, and-left, and-right, same-test}
+use Rattle.laws.proofs.Lookups.{get-some}
+use Rattle.laws.proofs.Lists.{all-get, all-head, all-tail}
 use Rattle.codes.specs.Block.{Content}
 use Rattle.blocks.specs.Block.{blockOf, sameList}
 use Rattle.blocks.specs.Content.{holding}
@@ -19,12 +21,12 @@ use Rattle.steps.specs.Calls.{same, insertCopy, changes}
 use Rattle.layout.specs.Layout.{draftBytes, segmentOf, copiesOf, heldOf, heldIn, partOf}
 use Rattle.layout.specs.Sound.{Fine, FineCopy, FineTaken, Sound}
 use Rattle.layout.specs.Lies.{Lies}
-use Rattle.layout.proofs.Items.{all-get, all-head, all-tail, get-some}
 use Rattle.layout.proofs.ForthIndex.{or-closed}
-use Rattle.layout.proofs.ForthParts.{part-copy, blank}
+use Rattle.layout.proofs.Stands.{part-copy}
+use Rattle.layout.proofs.ForthParts.{blank}
 use Rattle.layout.proofs.ForthLies.{lies-draft, lies-segment, lies-copy}
 use Rattle.history.specs.declared.Found.{Found}
-use Rattle.history.specs.Changing.{differing, found, picked, changesIn, copy, Stands, Finds}
+use Rattle.history.specs.Changing.{differing, found, picked, changesIn, Stands, Finds}
 
 -- ---- the test of contents
 same-self : (c : Content) → same (some c) c ≡ true

@@ -8,6 +8,7 @@ use native.Mathlib.Omega.{arith}
 use lib.ListN.{length, getD}
 use lib.Dec.{eqb}
 use Rattle.laws.proofs.Tests.{impossible}
+use Rattle.laws.proofs.Lookups.{get-none}
 use Rattle.refusal.specs.Numbers.{noDraft, staleDraft}
 use Rattle.blocks.specs.Block.{bookLength}
 use Rattle.blocks.proofs.Numbers.{Bytes}
@@ -21,7 +22,6 @@ use Rattle.layout.specs.Rule.{paperReply, Does}
 use Rattle.layout.specs.declared.Changed.{Changed}
 use Rattle.layout.specs.declared.Reply.{Reply}
 use Rattle.layout.specs.declared.Reply.the-variants as reply
-use Rattle.layout.proofs.Items.{get-none}
 use Rattle.layout.proofs.Says.{DraftSays, shut, bare, one, two}
 use Rattle.layout.proofs.Parts.{sound-parts, draft-cases}
 use Rattle.layout.proofs.Said.{drafts-length, draft-of, draft-shut, draft-open}

@@ -1,6 +1,6 @@
 -- The moves of a commit one after another leave the book that is committed. Assumes nothing.
 use mathlib.Core.Path.{_≡_, refl, sym, ap, _∙_, subst}
-use mathlib.Core.Bool.{Bool, true, false, _||_}
+use mathlib.Core.Bool.{or-false}
 use mathlib.Core.List.{List, [], _∷_, map}
 use mathlib.Core.Option.{some}
 use Prim.Native.Nat.{ℕ, zero, suc, _≤_, _<_}
@@ -123,10 +123,6 @@ commit-two-done l l1 l2 m d s from t other low high low2 high2 p q r b lies soun
 
 -- ---- no change
 -- no draft turns stale
-or-false : (a : Bool) → (a || false) ≡ a
-or-false true = refl
-or-false false = refl
-
 staled-none : (d : Draft) → staled [] d ≡ d
 unfolding touches
 staled-none closed = refl

@@ -9,13 +9,13 @@ use mathlib.Core.Option.{Option, none, some}
 use lib.ListN.{length, length-map, length-drop, length-take}
 use lib.Dec.{eqb, ltb}
 use borrow.Author.Tests.{ltb-true, ltb-false, eqb-false}
-use Rattle.laws.proofs.Lists.{All, all-nil, all-cons, all-append, all-map}
+use Rattle.laws.proofs.Lists.{All, all-nil, all-cons, all-append, all-map, all-found, all-take, all-drop, all-each}
+use Rattle.laws.proofs.Tests.{or-no, choose}
 use Rattle.codes.specs.Block.{Content}
 use Rattle.steps.specs.Book.{Copy, History, at}
 use Rattle.steps.specs.Calls.{has, same, insertCopy, changes, orElse, oldOf, stepsMost, latest, remember, newest, older}
 use Rattle.layout.specs.Sound.{Fine, FineCopy, Distinct, none-twice, first-once, UpCopies, none-up, one-up, FineTaken, FineStep, FineHistory}
-use Rattle.keeping.proofs.Places.{or-no, choose}
-use Rattle.keeping.proofs.Parts.{all-stands, all-found, all-take, all-drop, all-each}
+use Rattle.keeping.proofs.Parts.{all-stands}
 
 -- ---- a copy put among copies that ascend
 pub copy-all : (P : Copy → Type 0) (k : Copy) {qs : List Copy} → P k → All P qs → All P (insertCopy k qs)
@@ -140,7 +140,7 @@ remember-fine issue n (k ∷ ks) h c p =
 -- the newest step, and those before it
 pub newest-fine : (issue n : ℕ) (h : History) (cs : List Copy) → FineHistory issue n h → newest (h .kept) ≡ some cs → FineStep issue n cs
 unfolding newest
-newest-fine issue n h cs p e = all-found (h .kept) (length (h .kept) - 1) cs (p .steps) e .0
+newest-fine issue n h cs p e = all-found (length (h .kept) - 1) (p .steps) e
 
 pub older-fine : (issue n : ℕ) (h : History) → FineHistory issue n h → FineHistory issue n (record { kept = older (h .kept) })
 unfolding older

@@ -5,3 +5,4 @@ pub mod Working
 pub mod Storing
 pub mod Changing
 pub mod Keeping
+pub mod Bytewise

@@ -3,62 +3,17 @@ use Prim.Native.Nat.{ℕ, suc, _≤_, _<_}
 use native.Mathlib.Omega.{arith}
 use mathlib.Core.Path.{_≡_, refl}
 use mathlib.Core.Logic.{_≢_}
-use mathlib.Core.Bool.{Bool, true, false, cond, _&&_, _||_}
+use mathlib.Core.Bool.{Bool, true, false, cond, _||_}
 use mathlib.Core.List.{List, [], _∷_}
 use lib.ListN.{length}
-use lib.Dec.{leb, ltb, eqb}
-use borrow.Author.Tests.{ltb-true, leb-true, leb-false, eqb-false, lt-ltb, le-leb}
-use Rattle.laws.proofs.Tests.{apart, and-left, and-right}
-use Rattle.codes.specs.Places.{placesEnd, capacity, Ascending, nil, cons, ascends, isSet}
+use lib.Dec.{leb, eqb}
+use borrow.Author.Tests.{leb-false, eqb-false}
+use Rattle.codes.proofs.Sets.{set-true, set-is}
+use Rattle.laws.proofs.Tests.{apart, or-no, choose}
+use Rattle.codes.specs.Places.{placesEnd, capacity, Ascending, nil, cons, isSet}
 use Rattle.codes.specs.Block.{insert}
 use Rattle.codes.proofs.Members.{insert-cases, insert-ascending}
 use Rattle.steps.specs.Calls.{member, without}
-
--- ---- tests
-pub or-no : (a b : Bool) → (a || b) ≡ false → (a ≡ false) × (b ≡ false)
-or-no true b h = apart cc
-or-no false b h = (refl, h)
-
--- a statement about a choice, from one for each case
-pub choose : {A : Type 0} (P : A → Type 0) (q : Bool) (x y : A) → (q ≡ true → P x) → (q ≡ false → P y) → P (cond q x y)
-choose P true x y f g = f refl
-choose P false x y f g = g refl
-
--- ---- the test of ascending places, and the relation
-pub rising : (b : ℕ) (ps : List ℕ) → ascends b ps ≡ true → Ascending b ps
-unfolding ascends
-rising b [] e = nil
-rising b (p ∷ ps) e =
-    let low = and-left (leb b p && ltb p placesEnd) (ascends (suc p) ps) e in
-    cons (leb-true b p (and-left (leb b p) (ltb p placesEnd) low)) (ltb-true p placesEnd (and-right (leb b p) (ltb p placesEnd) low))
-    (rising (suc p) ps (and-right (leb b p && ltb p placesEnd) (ascends (suc p) ps) e))
-
-pub risen : {b : ℕ} {ps : List ℕ} → Ascending b ps → ascends b ps ≡ true
-unfolding ascends
-risen nil = refl
-risen {b} (cons {p = p} h k a) = rw (le-leb b p h, lt-ltb p placesEnd k) (risen a)
-
--- a set, in relations
-pub record Set (ps : List ℕ) : Type 0 where
-  pub one : 1 ≤ length ps
-  pub few : length ps ≤ capacity
-  pub up : Ascending 0 ps
-
-pub set-true : (ps : List ℕ) → isSet ps ≡ true → Set ps
-unfolding isSet
-set-true ps e =
-    let a = leb 1 (length ps) in
-    let b = leb (length ps) capacity in
-    let n = and-left (a && b) (ascends 0 ps) e in
-    record {
-      one = leb-true 1 (length ps) (and-left a b n);
-      few = leb-true (length ps) capacity (and-right a b n);
-      up = rising 0 ps (and-right (a && b) (ascends 0 ps) e);
-    }
-
-pub set-is : (ps : List ℕ) → Set ps → isSet ps ≡ true
-unfolding isSet
-set-is ps v = rw (le-leb 1 (length ps) (v .one), le-leb (length ps) capacity (v .few)) (risen (v .up))
 
 -- ---- a place that is not there is put in
 pub insert-one-more : (p : ℕ) (ps : List ℕ) → member p ps ≡ false → length (insert p ps) ≡ suc (length ps)

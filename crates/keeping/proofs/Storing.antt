@@ -5,13 +5,14 @@ use mathlib.Core.Path.{_≡_, refl, sym, _∙_}
 use mathlib.Core.Bool.{Bool, true, false, _||_}
 use mathlib.Core.List.{List, [], _∷_, map}
 use lib.ListN.{length}
+use Rattle.steps.proofs.Agree.{touches-none}
 use Rattle.laws.proofs.Tests.{apart}
-use Rattle.laws.proofs.Lists.{All, all-nil, all-cons}
+use Rattle.laws.proofs.Lists.{All, all-nil, all-cons, all-each}
 use Rattle.codes.specs.Block.{Content}
 use Rattle.steps.specs.Book.{Copy, Draft, closed, working}
-use Rattle.steps.specs.Calls.{has, touches, staled, stored}
+use Rattle.steps.specs.Calls.{touches, staled, stored}
 use Rattle.layout.specs.Sound.{Fine, FineCopy, FineDraft, closed-fine, working-fine}
-use Rattle.keeping.proofs.Parts.{put-length, all-put, all-each}
+use Rattle.keeping.proofs.Parts.{put-length, all-put}
 
 -- ---- storing
 pub stored-length : (cs : List Copy) (segments : List Content) → length (stored cs segments) ≡ length segments
@@ -26,12 +27,6 @@ stored-fine issue n all-nil f = f
 stored-fine issue n (all-cons {x = c} h a) f = all-put (c .segment) (c .held) (h .fine) (stored-fine issue n a f)
 
 -- ---- staleness
--- a draft that took nothing is not touched
-pub touches-none : (cs : List Copy) → touches cs [] ≡ false
-unfolding touches has
-touches-none [] = refl
-touches-none (c ∷ cs) = touches-none cs
-
 -- a draft that is stale has taken something
 pub stale-taken : (cs ks : List Copy) (stale : Bool) → (stale ≡ true → 1 ≤ length ks) → (stale || touches cs ks) ≡ true → 1 ≤ length ks
 stale-taken cs [] true f h = f refl

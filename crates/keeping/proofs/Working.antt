@@ -9,14 +9,14 @@ use mathlib.Core.Option.{Option, none, some}
 use lib.ListN.{length, length-append}
 use lib.Dec.{leb, eqb}
 use borrow.Author.Tests.{leb-false, eqb-false, ne-eqb}
-use Rattle.laws.proofs.Tests.{apart, either-way}
+use Rattle.steps.proofs.Agree.{has-recopy}
+use Rattle.laws.proofs.Tests.{apart, either-way, or-no, choose}
 use Rattle.laws.proofs.Lists.{All, all-nil, all-cons, all-append}
+use Rattle.laws.proofs.Lookups.{some-same}
 use Rattle.codes.specs.Block.{Content}
 use Rattle.steps.specs.Book.{Copy, at}
 use Rattle.steps.specs.Calls.{Work, taking, editing, edited, inRange, copyOf, recopy, takes, works, ranged, work, has}
 use Rattle.layout.specs.Sound.{Fine, FineCopy, Distinct, none-twice, first-once, FineTaken}
-use Rattle.keeping.proofs.Places.{or-no, choose}
-use Rattle.steps.proofs.Table.{some-same}
 use Rattle.keeping.proofs.Parts.{all-stands}
 use Rattle.keeping.proofs.Editing.{edited-fine}
 
@@ -29,15 +29,10 @@ recopy-copies issue n s c f (all-cons {x = k} h a) =
     (record { from = h .from; to = h .to; fine = either-way (Fine issue) (eqb s (k .segment)) f (h .fine) })
     (recopy-copies issue n s c f a)
 
-pub recopy-has : (x s : ℕ) (c : Content) (ks : List Copy) → has x (recopy s c ks) ≡ has x ks
-unfolding recopy has
-recopy-has x s c [] = refl
-recopy-has x s c (k ∷ ks) = ap (λ (t : Bool). eqb x (k .segment) || t) (recopy-has x s c ks)
-
 pub recopy-distinct : (s : ℕ) (c : Content) {ks : List Copy} → Distinct ks → Distinct (recopy s c ks)
 unfolding recopy
 recopy-distinct s c none-twice = none-twice
-recopy-distinct s c (first-once {k} {ks} e d) = first-once (recopy-has (k .segment) s c ks ∙ e) (recopy-distinct s c d)
+recopy-distinct s c (first-once {k} {ks} e d) = first-once (has-recopy (k .segment) s c ks ∙ e) (recopy-distinct s c d)
 
 pub recopy-length : (s : ℕ) (c : Content) (ks : List Copy) → length (recopy s c ks) ≡ length ks
 unfolding recopy

@@ -8,6 +8,8 @@ use native.Mathlib.Nat.{zero-add}
 use native.Mathlib.Omega.{arith}
 use lib.ListN.{length, getD}
 use borrow.Author.Tests.{ltb-true}
+use Rattle.laws.proofs.Lookups.{get-some}
+use Rattle.laws.proofs.Lists.{all-get}
 use Rattle.calendar.specs.Calendar.{startOf, issueMonths, allMonths}
 use Rattle.calendar.proofs.Laws.{start-mono, start-end}
 use Rattle.codes.specs.Places.{upward}
@@ -18,7 +20,7 @@ use Rattle.steps.specs.Book.{closed, Book}
 use Rattle.layout.specs.Layout.{bytesOf, draftOf, stepOf, bookOf}
 use Rattle.layout.specs.Sound.{isIssue, Sound}
 use Rattle.layout.specs.Lies.{Lies}
-use Rattle.layout.proofs.Items.{all-get, get-some, map-upward}
+use Rattle.layout.proofs.Items.{map-upward}
 use Rattle.layout.proofs.ForthParts.{bytes-lie, blank}
 use Rattle.layout.proofs.ForthLies.{lies-issue, lies-count, lies-steps, lies-draft, lies-step, lies-segment, lies-copy, lies-before}
 use Rattle.layout.proofs.ForthSaid.{draft-said, step-said}

@@ -1,10 +1,9 @@
 -- What stands where in block 0 of a book. Assumes nothing.
 use mathlib.Core.Path.{_≡_, refl, sym, ap, _∙_}
 use mathlib.Core.List.{List, [], _∷_, _++_}
-use mathlib.Core.Option.{none}
 use Prim.Native.Nat.{ℕ, zero, suc, _+_, _*_, _-_, _≤_, _<_}
 use native.Mathlib.Omega.{arith}
-use lib.ListN.{length, getD, getElem?, replicate, length-replicate, getD-replicate, length-append, List·getD-append}
+use lib.ListN.{length, getD, getElem?, replicate, length-replicate, getD-replicate, length-append, List·getD-append, List·getD-eq-default}
 use lib.Seq.{getD-append-add}
 use Rattle.laws.proofs.Tests.{by-order}
 use Rattle.blocks.specs.Block.{blockLength, numberAt, flat}
@@ -13,7 +12,6 @@ use Rattle.blocks.proofs.Numbers.{number-forth}
 use Rattle.steps.specs.Book.{Copy, Draft, closed, working, Book, orClosed}
 use Rattle.steps.specs.Calls.{stepsMost}
 use Rattle.layout.specs.Layout.{draftBytes, stepBytes, front, back, indexBytes, orNone}
-use Rattle.layout.proofs.Items.{get-past}
 
 -- ---- elements that may not be there
 -- a draft, a step
@@ -33,11 +31,14 @@ pub draft-wide : (d : Draft) → length (draftBytes d) ≡ 4
 draft-wide closed = refl
 draft-wide (working ks stale) = refl
 
+pub step-wide : (ks : List Copy) → length (stepBytes ks) ≡ 2
+step-wide ks = refl
+
 drafts-length : (ds : List Draft) → length (flat draftBytes ds) ≡ length ds * 4
 drafts-length ds = flat-length draftBytes 4 draft-wide ds
 
 steps-length : (ss : List (List Copy)) → length (flat stepBytes ss) ≡ length ss * 2
-steps-length ss = flat-length stepBytes 2 (λ s. refl) ss
+steps-length ss = flat-length stepBytes 2 step-wide ss
 
 -- block 0 is a block
 pub index-length : (b : Book) → length (b .drafts) ≡ 4 → length (b .history .kept) ≤ stepsMost → length (indexBytes b) ≡ blockLength
@@ -84,7 +85,7 @@ module _ (b : Book) (four : length (b .drafts) ≡ 4) where
       ∙ flat-get draftBytes 4 draft-wide 0 closed (b .drafts) d j (omega arith) g
 
   -- byte 24 + j is byte j of what follows the drafts
-  back-at : (j : ℕ) → getD (indexBytes b) (24 + j) 0 ≡ getD (back b) j 0
+  pub back-at : (j : ℕ) → getD (indexBytes b) (24 + j) 0 ≡ getD (back b) j 0
   unfolding indexBytes
   back-at j =
       let f : List ℕ = flat draftBytes (b .drafts) in
@@ -131,10 +132,10 @@ module _ (b : Book) (four : length (b .drafts) ≡ 4) where
       ap (λ (n : ℕ). getD (indexBytes b) n 0) e ∙ back-at (8 + (s * 2 + j))
       ∙ getD-append-add (length ss ∷ replicate 7 0) (u ++ replicate (480 - 2 * length ss) 0) (s * 2 + j) 0
       ∙ List·getD-append u (replicate (480 - 2 * length ss) 0) 0 (s * 2 + j) (omega arith)
-      ∙ flat-get stepBytes 2 (λ x. refl) 0 [] ss s j l g)
+      ∙ flat-get stepBytes 2 step-wide 0 [] ss s j l g)
       (λ l. let a : getD (stepBytes []) j 0 ≡ 0 = no-step j in
       index-rest sixteen (32 + 2 * s + j) (omega arith) (omega arith)
-      ∙ sym (ap (λ (x : List Copy). getD (stepBytes x) j 0) (get-past [] ss s l) ∙ a))
+      ∙ sym (ap (λ (x : List Copy). getD (stepBytes x) j 0) (List·getD-eq-default ss [] l) ∙ a))
     where
       no-step : (j : ℕ) → getD (stepBytes []) j 0 ≡ 0
       no-step zero = refl

@@ -12,7 +12,7 @@ use Rattle.steps.specs.Book.{Copy, Draft, closed, Book}
 use Rattle.layout.specs.Layout.{draftBytes, stepBytes, Part, partOf, copiesOf, heldOf, heldIn, indexBytes, blockBytes}
 use Rattle.layout.specs.Lies.{Lies}
 use Rattle.layout.proofs.ForthIndex.{or-closed, or-none, index-issue, index-count, index-draft, index-steps, index-step}
-use Rattle.layout.proofs.ForthParts.{part-segment, part-copy, part-before}
+use Rattle.layout.proofs.Stands.{part-segment, part-copy, part-before}
 
 module _ (l : List ℕ) (b : Book) (lies : Lies l b) where
   -- ---- the bytes of block 0

@@ -3,13 +3,14 @@ use mathlib.Core.Path.{_≡_, sym, ap, _∙_, subst}
 use mathlib.Core.Bool.{Bool, true, false, cond}
 use mathlib.Core.List.{List, [], _∷_}
 use mathlib.Core.Option.{Option, none, some}
-use Prim.Native.Nat.{ℕ, zero, suc, _+_, _*_, _-_, _/_, _%_, _<_}
+use Prim.Native.Nat.{ℕ, zero, suc, _-_, _/_, _%_, _<_}
 use native.Mathlib.Omega.{arith}
-use lib.ListN.{length, getD, getElem?}
+use lib.ListN.{length, getD, getElem?, List·getD-eq-default}
 use lib.Dec.{ltb}
-use borrow.Author.Tests.{lt-ltb, le-ltb, le-leb, lt-leb}
+use borrow.Author.Tests.{lt-ltb, le-ltb}
 use Rattle.laws.proofs.Tests.{by-order}
-use Rattle.laws.proofs.Lists.{All, all-nil, all-cons}
+use Rattle.laws.proofs.Lists.{All, all-nil, all-cons, all-get}
+use Rattle.laws.proofs.Lookups.{get-none, get-some}
 use Rattle.codes.specs.Block.{Content}
 use Rattle.blocks.specs.Block.{blockLength, checkOf, sealed}
 use Rattle.blocks.specs.Content.{holding, isUsed, isUnused}
@@ -19,7 +20,6 @@ use Rattle.steps.specs.Book.{Copy, Draft, closed, Book}
 use Rattle.layout.specs.Layout.{segmentOf, Part, segment, copy, before, partOf, copiesOf, heldOf, heldIn, indexBytes, blockBytes, bytesOf}
 use Rattle.layout.specs.Sound.{Fine, FineCopy, FineDraft, closed-fine, working-fine, Sound}
 use Rattle.layout.specs.Lies.{Lies}
-use Rattle.layout.proofs.Items.{all-get, get-none, get-past, get-some}
 use Rattle.layout.proofs.ForthIndex.{or-closed, or-none, index-length}
 use Rattle.layout.proofs.ForthBlocks.{block-at, bytes-length}
 
@@ -27,26 +27,6 @@ use Rattle.layout.proofs.ForthBlocks.{block-at, bytes-length}
 pub sealed-twice : (m : List ℕ) → sealed (sealed m) ≡ sealed m
 unfolding sealed
 sealed-twice m = sealed-again m (checkOf m % 256) (checkOf m / 256 % 256)
-
--- ---- which part a block is
--- a segment, a copy, what a segment held before
-pub part-segment : (n : ℕ) → n < 8 → partOf (suc n) ≡ segment n
-unfolding partOf
-part-segment n h = let e : suc n - 1 ≡ n = omega arith in rw (le-leb (suc n) 8 h, e)
-
-pub part-copy : (d j : ℕ) → d < 4 → j < 2 → partOf (9 + 2 * d + j) ≡ copy d j
-unfolding partOf
-part-copy d j h g =
-    let e : (9 + 2 * d + j - 9) / 2 ≡ d = omega arith in
-    let f : (9 + 2 * d + j - 9) % 2 ≡ j = omega arith in
-    rw (lt-leb (9 + 2 * d + j) 8 (omega arith), le-leb (9 + 2 * d + j) 16 (omega arith), e, f)
-
-pub part-before : (s j : ℕ) → j < 2 → partOf (17 + 2 * s + j) ≡ before s j
-unfolding partOf
-part-before s j g =
-    let e : (17 + 2 * s + j - 17) / 2 ≡ s = omega arith in
-    let f : (17 + 2 * s + j - 17) % 2 ≡ j = omega arith in
-    rw (lt-leb (17 + 2 * s + j) 8 (omega arith), lt-leb (17 + 2 * s + j) 16 (omega arith), e, f)
 
 -- ---- whether a block is used, and what for: a content that is sound under the issue
 pub data Told (issue : ℕ) : Bool → Option Content → Type 0 where
@@ -99,7 +79,7 @@ module _ (b : Book) (sound : Sound b) where
       (told-copy (b .issue) (length (b .segments)) (copiesOf (getD (b .drafts) d closed)) j
       (by-order d (length (b .drafts))
       (λ h. draft-copies (all-get closed d (sound .drafts) h))
-      (λ h. subst (λ (x : Draft). All (FineCopy (b .issue) (length (b .segments))) (copiesOf x)) (sym (get-past closed (b .drafts) d h)) all-nil)))
+      (λ h. subst (λ (x : Draft). All (FineCopy (b .issue) (length (b .segments))) (copiesOf x)) (sym (List·getD-eq-default (b .drafts) closed h)) all-nil)))
 
   told-step : (s j : ℕ) → Told (b .issue) (named b (before s j)) (heldIn b (before s j))
   unfolding named heldIn
@@ -108,7 +88,7 @@ module _ (b : Book) (sound : Sound b) where
       (told-copy (b .issue) (length (b .segments)) (getD (b .history .kept) s []) j
       (by-order s (length (b .history .kept))
       (λ h. all-get [] s (sound .past .steps) h .copies)
-      (λ h. subst (All (FineCopy (b .issue) (length (b .segments)))) (sym (get-past [] (b .history .kept) s h)) all-nil)))
+      (λ h. subst (All (FineCopy (b .issue) (length (b .segments)))) (sym (List·getD-eq-default (b .history .kept) [] h)) all-nil)))
 
   -- every part
   pub told-part : (p : Part) → Told (b .issue) (named b p) (heldIn b p)

@@ -1,16 +1,16 @@
 -- The bytes of a sound book are sound. Assumes nothing.
-use mathlib.Core.Path.{_≡_, ap, _∙_, subst}
+use mathlib.Core.Path.{_≡_, ap, _∙_}
 use mathlib.Core.Bool.{true}
 use mathlib.Core.List.{List, []}
-use Prim.Native.Nat.{ℕ, suc, _+_, _-_, _*_, _/_, _%_, _<_}
+use Prim.Native.Nat.{ℕ, suc, _+_, _-_, _*_, _<_}
 use native.Mathlib.Numerals.{one-add}
 use native.Mathlib.Nat.{zero-add}
 use native.Mathlib.Omega.{arith}
 use lib.ListN.{length, getD}
 use lib.Seq.{slice}
 use lib.Dec.{ltb}
-use borrow.Author.Tests.{le-leb, lt-leb, eq-eqb}
-use Rattle.laws.proofs.Tests.{by-order}
+use borrow.Author.Tests.{le-leb, eq-eqb}
+use Rattle.laws.proofs.Lists.{all-get}
 use Rattle.codes.specs.Places.{upward}
 use Rattle.blocks.specs.Block.{blockLength, bookLength, numberAt, allZero, sealed, checked}
 use Rattle.blocks.proofs.Seals.{sealed-length, sealed-at}
@@ -19,10 +19,11 @@ use Rattle.steps.specs.Book.{closed, Book}
 use Rattle.steps.specs.Calls.{stepsMost}
 use Rattle.layout.specs.Layout.{draftBytes, stepBytes, partOf, indexBytes, blockBytes, bytesOf}
 use Rattle.layout.specs.Sound.{isIssue, every, isDraftAt, isStepAt, isIndex, used, isGood, isSound, Sound}
-use Rattle.layout.proofs.Items.{all-get, every-upward}
+use Rattle.layout.proofs.Items.{every-upward}
 use Rattle.layout.proofs.ForthIndex.{index-length, index-issue, index-count, index-gap, index-draft, index-steps, index-mid, index-step, index-rest}
 use Rattle.layout.proofs.ForthBlocks.{block-at, bytes-length}
-use Rattle.layout.proofs.ForthParts.{bytes-lie, part-segment, part-copy, part-before, named, told-good, told-part, sound-wide}
+use Rattle.layout.proofs.Stands.{part-segment, used-segment, part-copy, used-copy, part-before, used-before, every-block}
+use Rattle.layout.proofs.ForthParts.{bytes-lie, named, told-good, told-part, sound-wide}
 use Rattle.layout.proofs.ForthLies.{lies-count, lies-draft, lies-step, lies-block}
 use Rattle.layout.proofs.Forth.{issue-low, said-issue}
 use Rattle.layout.proofs.ForthTests.{draft-passes, step-passes, draft-number, step-number}
@@ -106,34 +107,26 @@ module _ (b : Book) (sound : Sound b) where
 
   -- ---- the other blocks are good
   -- the index names what is used: a segment, a copy, what a segment held before
-  used-segment : (n : ℕ) → n < 8 → used (bytesOf b) (suc n) ≡ named b (partOf (suc n))
-  unfolding used named
-  used-segment n h = rw (part-segment n h, le-leb (suc n) 8 h, lies-count (bytesOf b) b (bytes-lie b sound))
+  named-segment : (n : ℕ) → n < 8 → used (bytesOf b) (suc n) ≡ named b (partOf (suc n))
+  unfolding named
+  named-segment n h = rw (part-segment n h, used-segment (bytesOf b) n h, lies-count (bytesOf b) b (bytes-lie b sound))
 
-  used-copy : (d j : ℕ) → d < 4 → j < 2 → used (bytesOf b) (9 + 2 * d + j) ≡ named b (partOf (9 + 2 * d + j))
-  unfolding used named
-  used-copy d j h g =
-      let p : 9 + 4 * ((9 + 2 * d + j - 9) / 2) + (9 + 2 * d + j - 9) % 2 ≡ 8 + 4 * d + (1 + j) = omega arith in
-      rw (part-copy d j h g, lt-leb (9 + 2 * d + j) 8 (omega arith), le-leb (9 + 2 * d + j) 16 (omega arith), p)
+  named-copy : (d j : ℕ) → d < 4 → j < 2 → used (bytesOf b) (9 + 2 * d + j) ≡ named b (partOf (9 + 2 * d + j))
+  unfolding named
+  named-copy d j h g =
+      let p : 9 + 4 * d + j ≡ 8 + 4 * d + (1 + j) = omega arith in
+      rw (part-copy d j h g, used-copy (bytesOf b) d j h g, p)
       (ap (ltb 0) (lies-draft (bytesOf b) b (bytes-lie b sound) d (1 + j) h (omega arith) ∙ draft-number (getD (b .drafts) d closed) j g))
 
-  used-before : (s j : ℕ) → s < 16 → j < 2 → used (bytesOf b) (17 + 2 * s + j) ≡ named b (partOf (17 + 2 * s + j))
-  unfolding used named
-  used-before s j h g =
-      let p : 15 + (17 + 2 * s + j) ≡ 32 + 2 * s + j = omega arith in
-      rw (part-before s j g, lt-leb (17 + 2 * s + j) 8 (omega arith), lt-leb (17 + 2 * s + j) 16 (omega arith), p)
+  named-before : (s j : ℕ) → s < 16 → j < 2 → used (bytesOf b) (17 + 2 * s + j) ≡ named b (partOf (17 + 2 * s + j))
+  unfolding named
+  named-before s j h g =
+      rw (part-before s j g, used-before (bytesOf b) s j)
       (ap (ltb 0) (lies-step (bytesOf b) b (bytes-lie b sound) s j h g ∙ step-number (getD (b .history .kept) s []) j g))
 
   -- any block
   used-is : (k : ℕ) → k < 48 → used (bytesOf b) (suc k) ≡ named b (partOf (suc k))
-  used-is k h =
-      by-order k 8 (used-segment k)
-      (λ l.
-      by-order k 16
-      (λ m. let e : 9 + 2 * ((k - 8) / 2) + (k - 8) % 2 ≡ suc k = omega arith in
-      subst (λ (i : ℕ). used (bytesOf b) i ≡ named b (partOf i)) e (used-copy ((k - 8) / 2) ((k - 8) % 2) (omega arith) (omega arith)))
-      (λ m. let e : 17 + 2 * ((k - 16) / 2) + (k - 16) % 2 ≡ suc k = omega arith in
-      subst (λ (i : ℕ). used (bytesOf b) i ≡ named b (partOf i)) e (used-before ((k - 16) / 2) ((k - 16) % 2) (omega arith) (omega arith))))
+  used-is k h = every-block (λ (i : ℕ). used (bytesOf b) i ≡ named b (partOf i)) named-segment named-copy named-before (suc k) (omega arith) (omega arith)
 
   -- each is used or unused as the index says
   block-passes : (k : ℕ) → k < 48 → isGood (bytesOf b) (suc k) ≡ true

@@ -1,17 +1,18 @@
 -- The bytes of a fine draft and of a fine step pass their tests. Assumes nothing.
 use mathlib.Core.Path.{_≡_, refl}
-use mathlib.Core.Bool.{Bool, true, false, _||_}
+use mathlib.Core.Bool.{Bool, true, false, or-true}
 use mathlib.Core.List.{List, [], _∷_}
 use Prim.Native.Nat.{ℕ, zero, suc, _+_, _≤_, _<_}
 use native.Mathlib.Omega.{arith}
 use lib.ListN.{getD, getElem?}
 use lib.Dec.{leb, eqb}
 use borrow.Author.Tests.{lt-ltb, le-leb}
+use Rattle.laws.proofs.Lists.{all-head, all-tail}
+use Rattle.laws.proofs.Tests.{or-no}
 use Rattle.steps.specs.Book.{Copy, Draft, closed, working}
 use Rattle.steps.specs.Calls.{has}
 use Rattle.layout.specs.Layout.{segmentOf, bit, draftBytes, stepBytes, segment, copiesOf}
 use Rattle.layout.specs.Sound.{isDraft, isStep, FineCopy, Distinct, first-once, UpCopies, one-up, FineDraft, working-fine, FineStep}
-use Rattle.layout.proofs.Items.{all-head, all-tail}
 use Rattle.layout.proofs.ForthSaid.{number-not}
 
 -- ---- tests
@@ -25,19 +26,10 @@ no-stale : (t : Bool) → (t ≡ true → 1 ≤ 0) → t ≡ false
 no-stale true f = absurd (omega (arith, f refl))
 no-stale false f = refl
 
--- one of two tests is true, none is
-or-true : (t : Bool) → (t || true) ≡ true
-or-true true = refl
-or-true false = refl
-
-or-left : (a b : Bool) → (a || b) ≡ false → a ≡ false
-or-left true b e = e
-or-left false b e = refl
-
 -- copies of two segments differ, and ascend
 differ : {k m : Copy} {ks : List Copy} → Distinct (k ∷ m ∷ ks) → eqb (k .segment) (m .segment) ≡ false
 unfolding has
-differ {k} {m} {ks} (first-once e d) = or-left (eqb (k .segment) (m .segment)) (has (k .segment) ks) e
+differ {k} {m} {ks} (first-once e d) = or-no (eqb (k .segment) (m .segment)) (has (k .segment) ks) e .0
 
 climb : {k m : Copy} {ks : List Copy} → UpCopies (k ∷ m ∷ ks) → k .segment < m .segment
 climb (one-up a u) = all-head a

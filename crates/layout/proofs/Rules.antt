@@ -1,6 +1,6 @@
 -- The rule of a call on sound bytes, on bytes that are no sound book, and on bytes of a wrong length. Assumes nothing.
-use mathlib.Core.Path.{_≡_, refl, sym, ap, _∙_}
-use mathlib.Core.Bool.{Bool, true, false}
+use mathlib.Core.Path.{_≡_, sym, ap, _∙_}
+use mathlib.Core.Bool.{true, false}
 use mathlib.Core.List.{List}
 use Prim.Native.Nat.{ℕ}
 use mathlib.Core.Logic.{_≢_}
@@ -15,7 +15,6 @@ use Rattle.layout.specs.Layout.{bytesOf, bookOf}
 use Rattle.layout.specs.Sound.{isSound}
 use Rattle.layout.specs.Rule.{onBytes, leaving, paperReply, Does}
 use Rattle.layout.specs.declared.Reply.{Reply}
-use Rattle.layout.specs.declared.Reply.the-variants as reply
 use Rattle.layout.proofs.Back.{sound-bytes}
 
 pub rule-short : (l : List ℕ) (c : Call) → length l ≢ bookLength → onBytes l c ≡ (refused wrongLength, l)

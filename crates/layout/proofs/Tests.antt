@@ -1,21 +1,20 @@
 -- Laws of the tests that decide whether a book's bytes are sound. Assumes nothing.
-use Prim.Native.Nat.{ℕ, zero, suc, _+_, _*_, _-_, _/_, _%_, _≤_, _<_}
+use Prim.Native.Nat.{ℕ, suc, _+_, _-_, _≤_, _<_}
 use native.Mathlib.Numerals.{add-one}
 use native.Mathlib.Omega.{arith}
 use mathlib.Core.Path.{_≡_, refl, sym, ap, _∙_}
-use mathlib.Core.Bool.{Bool, true, false, cond, _&&_, _||_, not}
-use mathlib.Core.List.{List, [], _∷_}
+use mathlib.Core.Bool.{Bool, true, false, _&&_, not}
+use mathlib.Core.List.{List, _∷_}
 use lib.ListN.{length, getD}
-use lib.Seq.{slice}
 use lib.Dec.{leb, ltb, eqb}
 use borrow.Author.Tests.{lt-leb, eq-eqb, ne-eqb, not-true, not-false}
 use Rattle.calendar.specs.Calendar.{startOf, issueMonths}
 use Rattle.calendar.proofs.Laws.{start-year}
 use Rattle.codes.specs.Places.{upward}
-use Rattle.blocks.specs.Block.{numberAt, allZero, checked, blockOf, bookLength}
+use Rattle.blocks.specs.Block.{numberAt, blockOf, bookLength}
 use Rattle.blocks.specs.Content.{isUsed, isUnused}
 use Rattle.steps.specs.Calls.{stepsMost}
-use Rattle.layout.specs.Sound.{isIssue, isDraft, isStep, every, isDraftAt, isStepAt, isIndex, used, isGood, isSound}
+use Rattle.layout.specs.Sound.{isIssue, every, isIndex, used, isGood, isSound}
 
 -- ---- a test of all numbers from one on
 upward-step : (i n : ℕ) → i < n → upward i (n - i) ≡ i ∷ upward (i + 1) (n - (i + 1))

@@ -12,6 +12,7 @@ use lib.Dec.{leb}
 use lib.Seq.{getD-take, length-take-le}
 use borrow.Author.Tests.{leb-true}
 use Rattle.laws.proofs.Tests.{apart, by, by-order}
+use Rattle.laws.proofs.Lookups.{get-some, get-none}
 use Rattle.refusal.specs.Numbers.{tooManyPlaces}
 use Rattle.refusal.specs.Answer.{Answer, ok, no, refused}
 use Rattle.calendar.specs.Purge.{purgeOf}
@@ -31,7 +32,6 @@ use Rattle.blocks.specs.Block.{bookLength, blockLength, blockOf, putBlock}
 use Rattle.blocks.specs.Content.{holding}
 use Rattle.blocks.proofs.Blocks.{put-length, put-same-block, put-other-block}
 use Rattle.blocks.proofs.Contents.{used-length, unused-length}
-use Rattle.layout.proofs.Items.{get-some, get-none}
 use Rattle.making.specs.Fill.{accepted, readAgain, contentFor, Filled}
 
 -- ---- a content that was read

@@ -1,5 +1,5 @@
 -- Block 0 of a new book, and the book that the blocks then are. Assumes nothing.
-use Prim.Native.Nat.{ℕ, zero, suc, _+_, _-_, _/_, _%_, _≤_, _<_}
+use Prim.Native.Nat.{ℕ, zero, suc, _-_, _/_, _%_, _≤_, _<_}
 use native.Mathlib.Nat.{ne-of-gt}
 use native.Mathlib.Omega.{arith}
 use mathlib.Core.Path.{_≡_, refl, sym, ap, _∙_}
@@ -9,18 +9,18 @@ use lib.ListN.{length, getElem?, set, replicate, length-set}
 use lib.Seq.{sets}
 use borrow.Author.Tests.{le-leb, lt-leb}
 use Rattle.laws.proofs.Tests.{by-order}
+use Rattle.laws.proofs.Lookups.{get-none}
 use Rattle.codes.specs.Block.{Content}
 use Rattle.blocks.specs.Block.{bookLength, blockLength, bytes32, checkOf, sealed, flat, blockOf, putBlock}
 use Rattle.blocks.specs.Content.{holding}
 use Rattle.blocks.proofs.Blocks.{put-length, put-same-block, put-other-block}
 use Rattle.blocks.proofs.Seals.{sealed-again}
 use Rattle.steps.specs.Book.{closed, Book, orClosed, newBook}
-use Rattle.layout.specs.Layout.{Part, segment, copy, before, partOf, copiesOf, heldOf, heldIn, indexBytes, blockBytes, bytesOf}
+use Rattle.layout.specs.Layout.{Part, copy, before, partOf, copiesOf, heldOf, heldIn, indexBytes, blockBytes, bytesOf}
 use Rattle.layout.specs.Lies.{Lies}
-use Rattle.layout.proofs.Items.{get-none}
 use Rattle.layout.proofs.ForthBlocks.{lies-sealed}
 use Rattle.layout.proofs.ForthIndex.{index-length}
-use Rattle.layout.proofs.ForthParts.{part-segment}
+use Rattle.layout.proofs.Stands.{part-segment}
 use Rattle.making.specs.Fill.{Indexed}
 
 -- ---- the other blocks

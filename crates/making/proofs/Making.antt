@@ -57,20 +57,20 @@ unfolding makeRule andThen
 rule-long l text year month h a e = rw (h, e)
 
 -- ---- what the reader's answer says of the bulletin
-record Told (text : List ℕ) (year month : ℕ) (h : Head) (gs : List Segment) : Type 0 where
-  said : rule.Bulletin
-  read : readBulletin text year month ≡ ok said
-  issue : h .issue ≡ said .issue
-  seen-are : gs ≡ map seen (said .segments)
+pub record Told (text : List ℕ) (year month : ℕ) (h : Head) (gs : List Segment) : Type 0 where
+  pub said : rule.Bulletin
+  pub read : readBulletin text year month ≡ ok said
+  pub issue : h .issue ≡ said .issue
+  pub seen-are : gs ≡ map seen (said .segments)
 
-told-by : (text : List ℕ) (year month : ℕ) (h : Head) (gs : List Segment) (a : Answer rule.Bulletin) → readBulletin text year month ≡ a
+pub told-by : (text : List ℕ) (year month : ℕ) (h : Head) (gs : List Segment) (a : Answer rule.Bulletin) → readBulletin text year month ≡ a
     → ok (reportOf h gs) ≡ reported a → Told text year month h gs
 told-by text year month h gs (ok b) e f =
     let p : reportOf h gs ≡ record { heading = b .heading; identifier = b .identifier; issue = b .issue; storm = b .storm; segments = map seen (b .segments) } = cc in
     record { said = b; read = e; issue = λ i. p i .issue; seen-are = λ i. p i .segments }
 told-by text year month h gs (no number place) e f = apart cc
 
-refused-by : (text : List ℕ) (year month : ℕ) (r : Refusal) (a : Answer rule.Bulletin) → readBulletin text year month ≡ a
+pub refused-by : (text : List ℕ) (year month : ℕ) (r : Refusal) (a : Answer rule.Bulletin) → readBulletin text year month ≡ a
     → no (r .number) (r .place) ≡ reported a → readBulletin text year month ≡ no (r .number) (r .place)
 refused-by text year month r (ok b) e f = apart cc
 refused-by text year month r (no number place) e f =

@@ -8,6 +8,7 @@ use mathlib.Core.Option.{Option, none, some}
 use lib.ListN.{length, length-map}
 use lib.Dec.{leb}
 use borrow.Author.Tests.{lt-ltb}
+use Rattle.codes.proofs.Sets.{set-is}
 use Rattle.laws.proofs.Tests.{by, apart}
 use Rattle.laws.proofs.Lists.{All, all-nil, all-cons, all-map}
 use Rattle.refusal.specs.Numbers.{Reason, wrongTime, tooManyPlaces}
@@ -21,7 +22,6 @@ use Rattle.codes.specs.Places.{capacity, isSet}
 use Rattle.codes.specs.Block.{Content, Read, block, wrongAt, readBlock, dated, contentIn, contentAt}
 use Rattle.roundtrip.proofs.RoundTrip.{Again, read-again}
 use Rattle.blocks.specs.Content.{isContent}
-use Rattle.keeping.proofs.Places.{set-is}
 use Rattle.keeping.proofs.Keeping.{new-sound}
 use Rattle.layout.specs.Sound.{isIssue, Fine, Sound}
 use Rattle.bulletin.specs.Segments.{Segment}

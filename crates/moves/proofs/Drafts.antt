@@ -1,27 +1,28 @@
 -- A draft opened, closed, and given a copy. Assumes nothing.
 use mathlib.Core.Path.{_≡_, refl, sym, ap, subst, _∙_}
 use mathlib.Core.Logic.{_≢_}
-use mathlib.Core.Bool.{Bool, false, cond}
+use mathlib.Core.Bool.{Bool, false}
 use mathlib.Core.List.{List, [], _∷_, _++_}
-use mathlib.Core.Option.{Option, none, some}
+use mathlib.Core.Option.{none, some}
 use Prim.Native.Nat.{ℕ, zero, suc, _+_, _*_, _-_, _≤_, _<_}
 use native.Mathlib.Omega.{arith}
 use lib.ListN.{length, getD, getElem?, set, length-set}
 use lib.Seq.{set-set, getD-set-same}
-use lib.Dec.{eqb}
-use borrow.Author.Tests.{eqb-true, eqb-false, le-leb, eq-eqb, ne-eqb}
-use Rattle.laws.proofs.Tests.{by, impossible}
+use Rattle.laws.proofs.Tests.{impossible}
+use Rattle.laws.proofs.Lookups.{get-more, get-last}
 use Rattle.codes.specs.Block.{Content}
 use Rattle.blocks.specs.Block.{blockOf, putBlock}
 use Rattle.blocks.specs.Content.{holding}
-use Rattle.blocks.proofs.Blocks.{block-length}
-use Rattle.blocks.proofs.Contents.{unused-length}
 use Rattle.steps.specs.Book.{Copy, Draft, closed, working, Book, at, put, draftAt}
 use Rattle.steps.specs.Calls.{withDrafts}
-use Rattle.layout.specs.Layout.{Part, segment, partOf, draftBytes, copiesOf, heldOf, heldIn, indexBytes, blockBytes}
+use Rattle.layout.specs.Layout.{segment, partOf, draftBytes, copiesOf, heldOf, heldIn, indexBytes}
 use Rattle.layout.specs.Lies.{Lies}
+use Rattle.layout.proofs.Stands.{part-copy}
+use Rattle.layout.proofs.ForthIndex.{or-closed, index-length}
 use Rattle.moves.proofs.Index.{draft-byte}
-use Rattle.moves.proofs.Parts.{Stands, lies-stands, stands-set, stands-put, stands-lies, part-copy, block-of-copy, held-put, held-new, draft-get}
+use Rattle.moves.proofs.Parts.{block-of-copy, held-put, held-new}
+use Rattle.moves.proofs.StepsStands.{upd, upd-at, stands-list, stands-clear, stands-copy}
+use Rattle.moves.proofs.StepsLies.{partsIn, parts-segment, lies-stands, stands-lies}
 
 -- ---- a byte stored that leaves the draft its copies
 module _ (l : List ℕ) (b : Book) (s : Lies l b) (k : ℕ) (h : k < 4) where
@@ -30,24 +31,21 @@ module _ (l : List ℕ) (b : Book) (s : Lies l b) (k : ℕ) (h : k < 4) where
 
   pub lies-byte : (j v : ℕ) (y : Draft) → j < 4 → set (draftBytes (getD (b .drafts) k closed)) j v ≡ draftBytes y → copiesOf y ≡ copiesOf (getD (b .drafts) k closed)
       → Lies (set l (8 + (k * 4 + j)) v) (withDrafts b (set (b .drafts) k y))
-  unfolding blockBytes heldIn
+  unfolding heldIn
   lies-byte j v y g bytes copies =
-      let x : List ℕ = indexBytes b in
-      let f : ℕ → List ℕ = λ i. blockBytes b (suc i) in
       let b′ : Book = withDrafts b (set (b .drafts) k y) in
-      let st : Stands (set l (8 + (k * 4 + j)) v) (set x (8 + (k * 4 + j)) v) f = stands-set l x f (lies-stands l b s) (8 + (k * 4 + j)) v (omega arith) in
-      stands-lies (set l (8 + (k * 4 + j)) v) (set x (8 + (k * 4 + j)) v) f st b′
-      (draft-byte b (s .four) k j h g v y bytes)
-      (λ i below. ap holding (sym (held-put b k y there (partOf (suc i))
-      (λ n e. ap (λ (q : List Copy). heldOf (getElem? q n)) (copies ∙ ap copiesOf (sym (draft-get (b .drafts) k))) ∙ ap (heldIn b) (sym e)))))
+      stands-lies (stands-list (indexBytes b) (lies-stands l b s) (8 + (k * 4 + j)) v (omega arith) (index-length b (s .four) (s .sixteen))) b′
       (length-set (b .drafts) k y ∙ s .four) (s .sixteen)
+      (λ i below. ap (λ (z : List ℕ). getD z i 0) (draft-byte b (s .four) k j h g v y bytes))
+      (λ i below. sym (held-put b k y there (partOf (suc i))
+      (λ n e. ap (λ (q : List Copy). heldOf (getElem? q n)) (copies ∙ ap copiesOf (sym (or-closed (b .drafts) k))) ∙ ap (heldIn b) (sym e))))
 
 pub opened : (l : List ℕ) (b : Book) (d : ℕ) → 1 ≤ d → d ≤ 4 → Lies l b → draftAt (b .drafts) d ≡ closed
     → Lies (set l (4 + 4 * d) 1) (withDrafts b (put (b .drafts) d (working [] false)))
 opened l b zero h g s e = impossible (omega arith)
 opened l b (suc k) h g s e =
     let place : 8 + (k * 4 + 0) ≡ 4 + 4 * suc k = omega arith in
-    let c : getD (b .drafts) k closed ≡ closed = sym (draft-get (b .drafts) k) ∙ e in
+    let c : getD (b .drafts) k closed ≡ closed = sym (or-closed (b .drafts) k) ∙ e in
     subst (λ (i : ℕ). Lies (set l i 1) (withDrafts b (set (b .drafts) k (working [] false)))) place
     (lies-byte l b s k (omega arith) 0 1 (working [] false) (omega arith) (ap (λ (x : Draft). set (draftBytes x) 0 1) c) (ap copiesOf (sym c)))
 
@@ -100,20 +98,19 @@ module _ (b : Book) (four : length (b .drafts) ≡ 4) (k : ℕ) (h : k < 4) wher
       ∙ ap (λ (m : List ℕ). set m (8 + (k * 4 + 0)) 0) (draft-again 1 0 (single x) (empty x) (omega arith) (clear-first x))
       ∙ draft-again 0 0 (empty x) closed (omega arith) (clear-open x)
 
--- the blocks of another part of the book
+-- what the blocks hold: those of another part of the book, and those of the draft's copies
 module _ (b : Book) (k : ℕ) (y : Draft) (h : k < length (b .drafts)) where
   block-other : (i : ℕ) → ((n : ℕ) → suc i ≡ 9 + 2 * k + n → n < 2 → heldOf (getElem? (copiesOf y) n) ≡ heldOf (getElem? (copiesOf (getD (b .drafts) k closed)) n))
-      → blockBytes (withDrafts b (set (b .drafts) k y)) (suc i) ≡ blockBytes b (suc i)
-  unfolding blockBytes heldIn
+      → partsIn (withDrafts b (set (b .drafts) k y)) i ≡ partsIn b i
+  unfolding heldIn
   block-other i same =
-      ap holding (held-put b k y h (partOf (suc i))
+      held-put b k y h (partOf (suc i))
       (λ n e. let at : (suc i ≡ 9 + 2 * k + n) × (n < 2) = block-of-copy (suc i) k n e in
-      same n (at .0) (at .1) ∙ ap (λ (q : Draft). heldOf (getElem? (copiesOf q) n)) (sym (draft-get (b .drafts) k)) ∙ ap (heldIn b) (sym e)))
+      same n (at .0) (at .1) ∙ ap (λ (q : Draft). heldOf (getElem? (copiesOf q) n)) (sym (or-closed (b .drafts) k)) ∙ ap (heldIn b) (sym e))
 
-  block-copy : (i n : ℕ) → suc i ≡ 9 + 2 * k + n → k < 4 → n < 2 → blockBytes (withDrafts b (set (b .drafts) k y)) (suc i) ≡ holding (heldOf (getElem? (copiesOf y) n))
-  unfolding blockBytes
+  block-copy : (i n : ℕ) → suc i ≡ 9 + 2 * k + n → k < 4 → n < 2 → partsIn (withDrafts b (set (b .drafts) k y)) i ≡ heldOf (getElem? (copiesOf y) n)
   block-copy i n e g t =
-      ap (λ (p : Part). holding (heldIn (withDrafts b (set (b .drafts) k y)) p)) (ap partOf e ∙ part-copy k n g t) ∙ ap holding (held-new b k y h n)
+      ap (heldIn (withDrafts b (set (b .drafts) k y))) (ap partOf e ∙ part-copy k n g t) ∙ held-new b k y h n
 
 module _ (l : List ℕ) (b : Book) (s : Lies l b) (k : ℕ) (h : k < 4) where
   in-drafts : k < length (b .drafts)
@@ -122,42 +119,43 @@ module _ (l : List ℕ) (b : Book) (s : Lies l b) (k : ℕ) (h : k < 4) where
   b₂ : Book
   b₂ = withDrafts b (set (b .drafts) k closed)
 
-  -- what the blocks are when one of the two is cleared
-  half : ℕ → List ℕ
-  half i = cond (eqb i (8 + 2 * k)) (holding none) (blockBytes b (suc i))
-
-  both : (i : ℕ) → i < 48 → i ≢ 9 + 2 * k → blockBytes b₂ (suc i) ≡ half i
-  unfolding half b₂
-  both i below other =
-      by (eqb i (8 + 2 * k))
-      (λ t. let e : i ≡ 8 + 2 * k = eqb-true i (8 + 2 * k) t in
-      rw t (block-copy b k closed in-drafts i 0 (omega arith) h (omega arith)))
-      (λ t. let e : i ≢ 8 + 2 * k = eqb-false i (8 + 2 * k) t in
-      rw t (block-other b k closed in-drafts i (λ n at small. impossible (no n at small e))))
+  -- what the blocks hold when the draft's two are cleared
+  both : (i : ℕ) → upd (upd (partsIn b) (8 + 2 * k) none) (9 + 2 * k) none i ≡ partsIn b₂ i
+  unfolding b₂
+  both i =
+      upd-at (upd (partsIn b) (8 + 2 * k) none) (9 + 2 * k) none i (partsIn b₂ i)
+      (λ e. sym (block-copy b k closed in-drafts i 1 (omega arith) h (omega arith)))
+      (λ d. upd-at (partsIn b) (8 + 2 * k) none i (partsIn b₂ i)
+      (λ e. sym (block-copy b k closed in-drafts i 0 (omega arith) h (omega arith)))
+      (λ e. sym (block-other b k closed in-drafts i (λ n at small. impossible (no d e n at small)))))
     where
-      no : (n : ℕ) → suc i ≡ 9 + 2 * k + n → n < 2 → i ≢ 8 + 2 * k → ⊥
-      no zero at small e = e (omega arith)
-      no (suc zero) at small e = other (omega arith)
-      no (suc (suc n)) at small e = omega arith
+      no : i ≢ 9 + 2 * k → i ≢ 8 + 2 * k → (n : ℕ) → suc i ≡ 9 + 2 * k + n → n < 2 → ⊥
+      no d e zero at small = e (omega arith)
+      no d e (suc zero) at small = d (omega arith)
+      no d e (suc (suc n)) at small = omega arith
 
   l₄ : List ℕ
   l₄ = set (set (set (set l (8 + (k * 4 + 3)) 0) (8 + (k * 4 + 2)) 0) (8 + (k * 4 + 1)) 0) (8 + (k * 4 + 0)) 0
 
   lies-closed : Lies (putBlock (suc (9 + 2 * k)) (holding none) (putBlock (suc (8 + 2 * k)) (holding none) l₄)) b₂
-  unfolding half b₂ l₄
+  unfolding b₂ l₄
   lies-closed =
       let x : List ℕ = indexBytes b in
-      let f : ℕ → List ℕ = λ i. blockBytes b (suc i) in
-      let s₁ = stands-set l x f (lies-stands l b s) (8 + (k * 4 + 3)) 0 (omega arith) in
-      let s₂ = stands-set _ _ f s₁ (8 + (k * 4 + 2)) 0 (omega arith) in
-      let s₃ = stands-set _ _ f s₂ (8 + (k * 4 + 1)) 0 (omega arith) in
-      let s₄ = stands-set _ _ f s₃ (8 + (k * 4 + 0)) 0 (omega arith) in
-      let s₅ = stands-put _ _ f s₄ (8 + 2 * k) (holding none) half (omega arith) unused-length
-      (rw (eq-eqb (8 + 2 * k) (8 + 2 * k) refl))
-      (λ i below e. rw (ne-eqb i (8 + 2 * k) e)) in
-      let s₆ = stands-put _ _ half s₅ (9 + 2 * k) (holding none) (λ i. blockBytes b₂ (suc i)) (omega arith) unused-length
-      (block-copy b k closed in-drafts (9 + 2 * k) 1 (omega arith) h (omega arith)) both in
-      stands-lies _ _ (λ i. blockBytes b₂ (suc i)) s₆ b₂ (index-closed b (s .four) k h) (λ i below. refl) (length-set (b .drafts) k closed ∙ s .four) (s .sixteen)
+      let x₁ : List ℕ = set x (8 + (k * 4 + 3)) 0 in
+      let x₂ : List ℕ = set x₁ (8 + (k * 4 + 2)) 0 in
+      let x₃ : List ℕ = set x₂ (8 + (k * 4 + 1)) 0 in
+      let w : length x ≡ 512 = index-length b (s .four) (s .sixteen) in
+      let w₁ : length x₁ ≡ 512 = length-set x (8 + (k * 4 + 3)) 0 ∙ w in
+      let w₂ : length x₂ ≡ 512 = length-set x₁ (8 + (k * 4 + 2)) 0 ∙ w₁ in
+      let w₃ : length x₃ ≡ 512 = length-set x₂ (8 + (k * 4 + 1)) 0 ∙ w₂ in
+      let s₁ = stands-list x (lies-stands l b s) (8 + (k * 4 + 3)) 0 (omega arith) w in
+      let s₂ = stands-list x₁ s₁ (8 + (k * 4 + 2)) 0 (omega arith) w₁ in
+      let s₃ = stands-list x₂ s₂ (8 + (k * 4 + 1)) 0 (omega arith) w₂ in
+      let s₄ = stands-list x₃ s₃ (8 + (k * 4 + 0)) 0 (omega arith) w₃ in
+      let s₅ = stands-clear s₄ (suc (8 + 2 * k)) (8 + 2 * k) refl (omega arith) in
+      let s₆ = stands-clear s₅ (suc (9 + 2 * k)) (9 + 2 * k) refl (omega arith) in
+      stands-lies s₆ b₂ (length-set (b .drafts) k closed ∙ s .four) (s .sixteen)
+      (λ i below. ap (λ (z : List ℕ). getD z i 0) (index-closed b (s .four) k h)) (λ i below. both i)
 
 -- the draft's four bytes cleared, from the last one on, and its two blocks
 pub closed-draft : (l : List ℕ) (b : Book) (d : ℕ) → 1 ≤ d → d ≤ 4 → Lies l b
@@ -175,27 +173,11 @@ closed-draft l b (suc k) h g s =
     rw (e₆, e₅, e₃, e₂, e₁, e₀) (lies-closed l b s k (omega arith))
 
 -- ---- a copy taken
--- what stands in a list that got one element more
-more-same : {A : Type 0} (xs : List A) (y : A) → getElem? (xs ++ (y ∷ [])) (length xs) ≡ some y
-more-same [] y = refl
-more-same (x ∷ xs) y = more-same xs y
-
-more-other : {A : Type 0} (xs : List A) (y : A) (n : ℕ) → n ≢ length xs → getElem? (xs ++ (y ∷ [])) n ≡ getElem? xs n
-more-other [] y zero h = impossible (h refl)
-more-other [] y (suc n) h = refl
-more-other (x ∷ xs) y zero h = refl
-more-other (x ∷ xs) y (suc n) h = more-other xs y n (λ e. h (ap suc e))
-
 -- its byte
 take-byte : (ks : List Copy) (stale : Bool) (q : Copy) → length ks < 2 → set (draftBytes (working ks stale)) (1 + length ks) (q .segment) ≡ draftBytes (working (ks ++ (q ∷ [])) stale)
 take-byte [] stale q h = refl
 take-byte (k ∷ []) stale q h = refl
 take-byte (k ∷ m ∷ ks) stale q h = impossible (omega arith)
-
--- the block of a segment
-segment-block : (b : Book) (n : ℕ) → n < 8 → blockBytes b (suc n) ≡ holding (getElem? (b .segments) n)
-unfolding blockBytes partOf heldIn
-segment-block b n h = let e : suc n - 1 ≡ n = omega arith in rw (le-leb (suc n) 8 (omega arith), e)
 
 module _ (l : List ℕ) (b : Book) (s : Lies l b) (k : ℕ) (n : ℕ) (m : ℕ) (ks : List Copy) (stale : Bool) (c : Content) where
   module _ (h : k < 4) (two : n < 2) (eight : m < 8) (is : getD (b .drafts) k closed ≡ working ks stale) (long : length ks ≡ n) (holds : getElem? (b .segments) m ≡ some c) where
@@ -211,19 +193,18 @@ module _ (l : List ℕ) (b : Book) (s : Lies l b) (k : ℕ) (n : ℕ) (m : ℕ) 
     within : k < length (b .drafts)
     within = omega (arith, s .four)
 
-    new-block : blockBytes b₃ (suc (8 + 2 * k + n)) ≡ blockOf (suc m) l
+    new-block : (i : ℕ) → i ≡ 8 + 2 * k + n → partsIn b₃ i ≡ some c
     unfolding b₃ y q
-    new-block =
-        block-copy b k y within (8 + 2 * k + n) n (omega arith) h two
-        ∙ ap (λ (o : Option Copy). holding (heldOf o)) (ap (getElem? (ks ++ (q ∷ []))) (sym long) ∙ more-same ks q)
-        ∙ ap holding (sym holds) ∙ sym (segment-block b m eight) ∙ sym (s .blocks m (omega arith))
+    new-block i e =
+        block-copy b k y within i n (omega arith) h two
+        ∙ ap heldOf (ap (getElem? (ks ++ (q ∷ []))) (sym long) ∙ get-last ks q)
 
-    old-block : (i : ℕ) → i < 48 → i ≢ 8 + 2 * k + n → blockBytes b₃ (suc i) ≡ blockBytes b (suc i)
+    old-block : (i : ℕ) → i ≢ 8 + 2 * k + n → partsIn b₃ i ≡ partsIn b i
     unfolding b₃ y
-    old-block i below other =
+    old-block i other =
         block-other b k y within i
         (λ j at small.
-        ap heldOf (more-other ks q j (λ e. other (omega (arith, e, long, at))))
+        ap heldOf (get-more ks q j (λ e. other (omega (arith, e, long, at))))
         ∙ ap (λ (x : Draft). heldOf (getElem? (copiesOf x) j)) (sym is))
 
     index-taken : set (indexBytes b) (8 + (k * 4 + (1 + n))) (suc m) ≡ indexBytes b₃
@@ -236,11 +217,12 @@ module _ (l : List ℕ) (b : Book) (s : Lies l b) (k : ℕ) (n : ℕ) (m : ℕ) 
     lies-taken : Lies (set (putBlock (suc (8 + 2 * k + n)) (blockOf (suc m) l) l) (8 + (k * 4 + (1 + n))) (suc m)) b₃
     unfolding b₃ y q
     lies-taken =
-        let len : length l ≡ 25088 = s .long in
-        let s₁ = stands-put l (indexBytes b) (λ i. blockBytes b (suc i)) (lies-stands l b s) (8 + 2 * k + n) (blockOf (suc m) l) (λ i. blockBytes b₃ (suc i)) (omega arith)
-        (block-length (suc m) l (omega arith)) new-block old-block in
-        let s₂ = stands-set _ _ (λ i. blockBytes b₃ (suc i)) s₁ (8 + (k * 4 + (1 + n))) (suc m) (omega arith) in
-        stands-lies _ _ (λ i. blockBytes b₃ (suc i)) s₂ b₃ index-taken (λ i below. refl) (length-set (b .drafts) k y ∙ s .four) (s .sixteen)
+        let s₁ = stands-copy (lies-stands l b s) m (8 + 2 * k + n) (omega arith) (omega arith) in
+        let s₂ = stands-list (indexBytes b) s₁ (8 + (k * 4 + (1 + n))) (suc m) (omega arith) (index-length b (s .four) (s .sixteen)) in
+        stands-lies s₂ b₃ (length-set (b .drafts) k y ∙ s .four) (s .sixteen)
+        (λ i below. ap (λ (z : List ℕ). getD z i 0) index-taken)
+        (λ i below. upd-at (partsIn b) (8 + 2 * k + n) (partsIn b m) i (partsIn b₃ i)
+        (λ e. parts-segment b m eight ∙ holds ∙ sym (new-block i e)) (λ d. sym (old-block i d)))
 
 -- block s copied to the draft's next one, and its number stored
 pub taken : (l : List ℕ) (b : Book) (d n s : ℕ) → 1 ≤ d → d ≤ 4 → n < 2 → 1 ≤ s → s ≤ 8 → Lies l b
@@ -252,4 +234,4 @@ taken l b (suc k) n zero h g two h₁ h₈ lies ks stale c is long holds = impos
 taken l b (suc k) n (suc m) h g two h₁ h₈ lies ks stale c is long holds =
     let e : 7 + 2 * suc k + n ≡ suc (8 + 2 * k + n) = omega arith in
     let f : 5 + 4 * suc k + n ≡ 8 + (k * 4 + (1 + n)) = omega arith in
-    rw (e, f) (lies-taken l b lies k n m ks stale c (omega arith) two (omega arith) (sym (draft-get (b .drafts) k) ∙ is) long holds)
+    rw (e, f) (lies-taken l b lies k n m ks stale c (omega arith) two (omega arith) (sym (or-closed (b .drafts) k) ∙ is) long holds)

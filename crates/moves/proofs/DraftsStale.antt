@@ -1,6 +1,6 @@
 -- Drafts that turn stale. Assumes nothing.
 use mathlib.Core.Path.{_≡_, refl, sym, ap, subst, _∙_}
-use mathlib.Core.Bool.{Bool, true, false, cond, _||_}
+use mathlib.Core.Bool.{Bool, true, false, cond, _||_, or-false, or-true}
 use mathlib.Core.List.{List, [], _∷_, map}
 use Prim.Native.Nat.{ℕ, zero, suc, _+_, _*_, _≤_, _<_}
 use native.Mathlib.Omega.{arith}
@@ -8,25 +8,18 @@ use lib.ListN.{length, getD, getElem?, set}
 use lib.Seq.{set-getD}
 use lib.Dec.{eqb}
 use borrow.Author.Tests.{eqb-true, eqb-false, ne-eqb, lt-ltb, le-ltb}
+use Rattle.steps.proofs.Agree.{touches-none}
 use Rattle.laws.proofs.Tests.{by, impossible}
 use Rattle.laws.proofs.Lists.{All, all-nil, all-cons}
 use Rattle.steps.specs.Book.{Copy, Draft, closed, working, Book}
 use Rattle.steps.specs.Calls.{has, touches, staled, numbers, withDrafts}
-use Rattle.layout.specs.Layout.{segmentOf, draftBytes, copiesOf, indexBytes, blockBytes}
+use Rattle.layout.specs.Layout.{segmentOf, draftBytes, copiesOf}
 use Rattle.layout.specs.Sound.{FineDraft, working-fine}
 use Rattle.layout.specs.Lies.{Lies}
 use Rattle.moves.specs.Named.{named, meets, marked}
 use Rattle.moves.proofs.Index.{draft-read}
-use Rattle.moves.proofs.Parts.{lies-stands, stands-get}
+use Rattle.moves.proofs.StepsLies.{lies-stands}
 use Rattle.moves.proofs.Drafts.{lies-byte}
-
-or-false : (t : Bool) → (t || false) ≡ t
-or-false true = refl
-or-false false = refl
-
-or-true : (t : Bool) → (t || true) ≡ true
-or-true true = refl
-or-true false = refl
 
 -- ---- the test
 any-has : List ℕ → List Copy → Bool
@@ -38,11 +31,6 @@ touches-numbers : (cs ks : List Copy) → touches cs ks ≡ any-has (numbers cs)
 unfolding touches any-has
 touches-numbers [] ks = refl
 touches-numbers (c ∷ cs) ks = ap (λ (t : Bool). has (c .segment) ks || t) (touches-numbers cs ks)
-
-touches-none : (cs : List Copy) → touches cs [] ≡ false
-unfolding touches has
-touches-none [] = refl
-touches-none (c ∷ cs) = touches-none cs
 
 has-two : (s : ℕ) (ks : List Copy) → 1 ≤ s → length ks ≤ 2 → (eqb s (segmentOf (getElem? ks 0)) || eqb s (segmentOf (getElem? ks 1))) ≡ has s ks
 unfolding has
@@ -71,7 +59,7 @@ few issue n (working ks stale) (working-fine t) = t .two
 
 module _ (l : List ℕ) (b : Book) (s : Lies l b) (k : ℕ) (h : k < 4) (first second : ℕ) (cs : List Copy) (one : 1 ≤ first) (are : numbers cs ≡ named first second) where
   read : (j : ℕ) → j < 4 → getD l (8 + (k * 4 + j)) 0 ≡ getD (draftBytes (getD (b .drafts) k closed)) j 0
-  read j g = stands-get l (indexBytes b) (λ i. blockBytes b (suc i)) (lies-stands l b s) (8 + (k * 4 + j)) (omega arith) ∙ draft-read b (s .four) k j h g
+  read j g = lies-stands l b s .bytes (8 + (k * 4 + j)) (omega arith) ∙ draft-read b (s .four) k j h g
 
   -- unmarked
   kept : (x : Draft) → getD (b .drafts) k closed ≡ x → Lies l (withDrafts b (set (b .drafts) k x))

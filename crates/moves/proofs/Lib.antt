@@ -1,9 +1,7 @@
 pub mod Index
 pub mod Parts
-pub mod Sealing
 pub mod Drafts
 pub mod DraftsStale
-pub mod StepsLists
 pub mod StepsStands
 pub mod StepsIndex
 pub mod StepsLies

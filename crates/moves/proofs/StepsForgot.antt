@@ -10,7 +10,7 @@ use lib.ListN.{length, drop, getD, set, length-append, length-drop, length-set}
 use lib.Seq.{getD-set-same, getD-set-other, drop-append-le}
 use lib.Dec.{ltb}
 use borrow.Author.Tests.{lt-ltb, le-ltb}
-use Rattle.laws.proofs.Tests.{by, by-order, impossible, apart}
+use Rattle.laws.proofs.Tests.{by-order, impossible, apart}
 use Rattle.codes.specs.Block.{Content}
 use Rattle.blocks.specs.Block.{bookLength, blockOf, putBlock}
 use Rattle.blocks.specs.Content.{holding}

@@ -7,11 +7,12 @@ use native.Mathlib.Omega.{arith}
 use lib.ListN.{length, drop, getD, getElem?, replicate, length-append, length-replicate, getD-replicate, List·getD-append, List·getD-eq-default}
 use lib.Seq.{getD-append-add}
 use Rattle.laws.proofs.Tests.{by-order, impossible}
+use Rattle.laws.proofs.Lookups.{get-none}
 use Rattle.blocks.specs.Block.{flat}
 use Rattle.blocks.proofs.Chunks.{flat-length}
-use Rattle.steps.specs.Book.{Copy, Draft, closed, working, Book}
+use Rattle.steps.specs.Book.{Copy, Book}
 use Rattle.layout.specs.Layout.{segmentOf, draftBytes, stepBytes, front, back, indexBytes, orNone}
-use Rattle.moves.proofs.StepsLists.{elem-none}
+use Rattle.layout.proofs.ForthIndex.{draft-wide, back-at}
 
 -- ---- its three parts: before byte 24, the count and a gap, the steps
 abbrev pub top : Book → List ℕ
@@ -21,25 +22,8 @@ pub index-split : (b : Book) → indexBytes b ≡ top b ++ back b
 unfolding indexBytes
 index-split b = sym (append-assoc (front b) (flat draftBytes (b .drafts)) (back b))
 
-draft-wide : (d : Draft) → length (draftBytes d) ≡ 4
-draft-wide closed = refl
-draft-wide (working ks stale) = refl
-
-step-wide : (ks : List Copy) → length (stepBytes ks) ≡ 2
-step-wide ks = refl
-
 pub top-length : (b : Book) → length (b .drafts) ≡ 4 → length (top b) ≡ 24
 top-length b h = length-append (front b) (flat draftBytes (b .drafts)) ∙ omega (arith, flat-length draftBytes 4 draft-wide (b .drafts))
-
-pub back-length : (b : Book) → length (b .history .kept) ≤ 16 → length (back b) ≡ 488
-back-length b h =
-    let n : ℕ = length (b .history .kept) in
-    length-append (n ∷ replicate 7 0) (flat stepBytes (b .history .kept) ++ replicate (480 - 2 * n) 0)
-    ∙ ap (λ (m : ℕ). 8 + m) (length-append (flat stepBytes (b .history .kept)) (replicate (480 - 2 * n) 0))
-    ∙ omega (arith, flat-length stepBytes 2 step-wide (b .history .kept), length-replicate {A = ℕ} (480 - 2 * n) 0)
-
-pub index-length : (b : Book) → length (b .drafts) ≡ 4 → length (b .history .kept) ≤ 16 → length (indexBytes b) ≡ 512
-index-length b h g = ap (length {A = ℕ}) (index-split b) ∙ length-append (top b) (back b) ∙ omega (arith, top-length b h, back-length b g)
 
 -- ---- what stands at each
 zero-at : (m i : ℕ) → _≡_ {A = ℕ} (getD (replicate m 0) i 0) 0
@@ -52,7 +36,7 @@ slotOf steps t = getElem? (orNone (getElem? steps (t / 2))) (t % 2)
 -- past the last step
 pub slot-none : (steps : List (List Copy)) (t : ℕ) → length steps ≤ t / 2 → slotOf steps t ≡ none
 unfolding slotOf
-slot-none steps t h = ap (λ (o : Option (List Copy)). getElem? (orNone o) (t % 2)) (elem-none steps (t / 2) h)
+slot-none steps t h = ap (λ (o : Option (List Copy)). getElem? (orNone o) (t % 2)) (get-none steps (t / 2) h)
 
 -- without the first step
 pub slot-drop : (steps : List (List Copy)) (t : ℕ) → slotOf steps (2 + t) ≡ slotOf (drop 1 steps) t
@@ -80,25 +64,6 @@ module _ (b : Book) (h : length (b .drafts) ≡ 4) where
   index-low i g =
       ap (λ (z : List ℕ). getD z i 0) (index-split b) ∙ List·getD-append (top b) (back b) 0 i (omega (arith, top-length b h))
 
-  index-high : (i : ℕ) → getD (indexBytes b) (24 + i) 0 ≡ getD (back b) i 0
-  index-high i =
-      ap (λ (z : List ℕ). getD z (24 + i) 0) (index-split b)
-      ∙ ap (λ (n : ℕ). getD (top b ++ back b) (n + i) 0) (sym (top-length b h))
-      ∙ getD-append-add (top b) (back b) i 0
-
-  -- byte 24
-  pub index-count : getD (indexBytes b) 24 0 ≡ length (b .history .kept)
-  index-count = index-high 0
-
-  -- the gap
-  pub index-gap : (i : ℕ) → i < 7 → getD (indexBytes b) (25 + i) 0 ≡ 0
-  index-gap i g =
-      let e : 25 + i ≡ 24 + suc i = omega arith in
-      let n : ℕ = length (b .history .kept) in
-      let r : List ℕ = flat stepBytes (b .history .kept) ++ replicate (480 - 2 * n) 0 in
-      ap (λ (m : ℕ). getD (indexBytes b) m 0) e ∙ index-high (suc i)
-      ∙ List·getD-append (replicate 7 0) r 0 i g ∙ zero-at 7 i
-
   -- the steps
   pub index-step : (t : ℕ) → getD (indexBytes b) (32 + t) 0 ≡ segmentOf (slotOf (b .history .kept) t)
   unfolding slotOf
@@ -107,7 +72,7 @@ module _ (b : Book) (h : length (b .drafts) ≡ 4) where
       let r : List ℕ = flat stepBytes (b .history .kept) ++ replicate (480 - 2 * n) 0 in
       let e : 32 + t ≡ 24 + (8 + t) = omega arith in
       let f : t ≡ t / 2 * 2 + t % 2 = omega arith in
-      ap (λ (m : ℕ). getD (indexBytes b) m 0) e ∙ index-high (8 + t)
+      ap (λ (m : ℕ). getD (indexBytes b) m 0) e ∙ back-at b h (8 + t)
       ∙ getD-append-add (n ∷ replicate 7 0) r t 0
       ∙ ap (λ (m : ℕ). getD r m 0) f
       ∙ step-byte (b .history .kept) (480 - 2 * n) (t / 2) (t % 2) (omega arith)

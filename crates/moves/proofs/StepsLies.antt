@@ -1,51 +1,39 @@
 -- From a book that lies in bytes to what stands in them, and back. Assumes nothing.
 use mathlib.Core.Path.{_≡_, refl, sym, ap, ap₂, _∙_, subst}
 use mathlib.Core.Logic.{_≢_}
-use mathlib.Core.Bool.{Bool, cond}
 use mathlib.Core.List.{List, _∷_, _++_}
 use mathlib.Core.Option.{Option, some}
 use Prim.Native.Nat.{ℕ, zero, suc, _+_, _*_, _-_, _/_, _%_, _≤_, _<_}
 use native.Mathlib.Omega.{arith}
 use lib.ListN.{length, getD, getElem?, set, replicate, length-set}
-use lib.Dec.{eqb, leb}
-use Rattle.moves.proofs.StepsLists.{elem-set-same, elem-set-other}
-use borrow.Author.Tests.{le-leb, lt-leb, eqb-true, eqb-false}
+use lib.Dec.{eqb}
+use borrow.Author.Tests.{eqb-true, eqb-false}
 use Rattle.laws.proofs.Tests.{by, by-order, impossible}
+use Rattle.laws.proofs.Lookups.{get-same, get-other}
 use Rattle.codes.specs.Block.{Content}
 use Rattle.blocks.specs.Block.{bytes32, flat, blockOf, putBlock}
 use Rattle.blocks.specs.Content.{holding}
 use Rattle.blocks.proofs.Blocks.{block-length}
 use Rattle.blocks.proofs.Seals.{sealed-at}
 use Rattle.steps.specs.Book.{Copy, Book, put}
-use Rattle.layout.specs.Layout.{segment, copy, before, partOf, heldIn, segmentOf, heldOf, orNone, draftBytes, back, indexBytes, blockBytes}
+use Rattle.layout.specs.Layout.{copy, before, partOf, heldIn, segmentOf, heldOf, orNone, draftBytes, back, indexBytes, blockBytes}
 use Rattle.layout.specs.Lies.{Lies}
+use Rattle.layout.proofs.Stands.{part-segment, part-copy, part-before}
+use Rattle.layout.proofs.ForthIndex.{index-length, index-steps, index-mid}
 use Rattle.moves.specs.Undo.{withSegments, withKept}
 use Rattle.moves.proofs.StepsStands.{Stands, head-byte, sealed-ext, upd, upd-other, upd-at, stands-copy}
-use Rattle.moves.proofs.StepsIndex.{index-length, index-low, index-count, index-gap, index-step, slotOf}
+use Rattle.moves.proofs.StepsIndex.{index-low, index-step, slotOf}
 
 -- ---- the parts that blocks are for
-part-segment : (k : ℕ) → k < 8 → partOf (suc k) ≡ segment k
-unfolding partOf
-part-segment k h =
-    let e : suc k - 1 ≡ k = omega arith in
-    ap (λ (t : Bool). cond t (segment (suc k - 1)) (cond (leb (suc k) 16) (copy ((suc k - 9) / 2) ((suc k - 9) % 2)) (before ((suc k - 17) / 2) ((suc k - 17) % 2)))) (le-leb (suc k) 8 (omega arith))
-    ∙ ap segment e
+copy-block : (k : ℕ) → 8 ≤ k → k < 16 → partOf (suc k) ≡ copy ((k - 8) / 2) ((k - 8) % 2)
+copy-block k g h =
+    let e : suc k ≡ 9 + 2 * ((k - 8) / 2) + (k - 8) % 2 = omega arith in
+    ap partOf e ∙ part-copy ((k - 8) / 2) ((k - 8) % 2) (omega arith) (omega arith)
 
-part-copy : (k : ℕ) → 8 ≤ k → k < 16 → partOf (suc k) ≡ copy ((k - 8) / 2) ((k - 8) % 2)
-unfolding partOf
-part-copy k g h =
-    let e : suc k - 9 ≡ k - 8 = omega arith in
-    ap (λ (t : Bool). cond t (segment (suc k - 1)) (cond (leb (suc k) 16) (copy ((suc k - 9) / 2) ((suc k - 9) % 2)) (before ((suc k - 17) / 2) ((suc k - 17) % 2)))) (lt-leb (suc k) 8 (omega arith))
-    ∙ ap (λ (t : Bool). cond t (copy ((suc k - 9) / 2) ((suc k - 9) % 2)) (before ((suc k - 17) / 2) ((suc k - 17) % 2))) (le-leb (suc k) 16 (omega arith))
-    ∙ ap (λ (m : ℕ). copy (m / 2) (m % 2)) e
-
-part-before : (k : ℕ) → 16 ≤ k → partOf (suc k) ≡ before ((k - 16) / 2) ((k - 16) % 2)
-unfolding partOf
-part-before k h =
-    let e : suc k - 17 ≡ k - 16 = omega arith in
-    ap (λ (t : Bool). cond t (segment (suc k - 1)) (cond (leb (suc k) 16) (copy ((suc k - 9) / 2) ((suc k - 9) % 2)) (before ((suc k - 17) / 2) ((suc k - 17) % 2)))) (lt-leb (suc k) 8 (omega arith))
-    ∙ ap (λ (t : Bool). cond t (copy ((suc k - 9) / 2) ((suc k - 9) % 2)) (before ((suc k - 17) / 2) ((suc k - 17) % 2))) (lt-leb (suc k) 16 (omega arith))
-    ∙ ap (λ (m : ℕ). before (m / 2) (m % 2)) e
+before-block : (k : ℕ) → 16 ≤ k → partOf (suc k) ≡ before ((k - 16) / 2) ((k - 16) % 2)
+before-block k h =
+    let e : suc k ≡ 17 + 2 * ((k - 16) / 2) + (k - 16) % 2 = omega arith in
+    ap partOf e ∙ part-before ((k - 16) / 2) ((k - 16) % 2) (omega arith)
 
 -- what the blocks after block 0 hold, counted from 0, and the bytes of block 0
 abbrev pub partsIn : Book → ℕ → Option Content
@@ -62,21 +50,21 @@ pub parts-past : (b : Book) (t : ℕ) → partsIn b (16 + t) ≡ heldOf (slotOf 
 unfolding heldIn slotOf
 parts-past b t =
     let e : 16 + t - 16 ≡ t = omega arith in
-    ap (heldIn b) (part-before (16 + t) (omega arith) ∙ ap (λ (m : ℕ). before (m / 2) (m % 2)) e)
+    ap (heldIn b) (before-block (16 + t) (omega arith) ∙ ap (λ (m : ℕ). before (m / 2) (m % 2)) e)
 
 -- blocks of segments and drafts do not depend on the steps
 pub parts-low : (b : Book) (steps : List (List Copy)) (k : ℕ) → k < 16 → partsIn b k ≡ partsIn (withKept b steps) k
 unfolding heldIn
 parts-low b steps k h = by-order k 8
     (λ g. ap (heldIn b) (part-segment k g) ∙ sym (ap (heldIn (withKept b steps)) (part-segment k g)))
-    (λ g. ap (heldIn b) (part-copy k g h) ∙ sym (ap (heldIn (withKept b steps)) (part-copy k g h)))
+    (λ g. ap (heldIn b) (copy-block k g h) ∙ sym (ap (heldIn (withKept b steps)) (copy-block k g h)))
 
 -- blocks of drafts and steps do not depend on the segments
 pub parts-high : (b : Book) (cs : List Content) (k : ℕ) → 8 ≤ k → partsIn b k ≡ partsIn (withSegments b cs) k
 unfolding heldIn
 parts-high b cs k h = by-order k 16
-    (λ g. ap (heldIn b) (part-copy k h g) ∙ sym (ap (heldIn (withSegments b cs)) (part-copy k h g)))
-    (λ g. ap (heldIn b) (part-before k g) ∙ sym (ap (heldIn (withSegments b cs)) (part-before k g)))
+    (λ g. ap (heldIn b) (copy-block k h g) ∙ sym (ap (heldIn (withSegments b cs)) (copy-block k h g)))
+    (λ g. ap (heldIn b) (before-block k g) ∙ sym (ap (heldIn (withSegments b cs)) (before-block k g)))
 
 -- ---- from a book that lies there, and back
 pub lies-stands : (l : List ℕ) (b : Book) → Lies l b → Stands l (bytesIn b) (partsIn b)
@@ -106,7 +94,7 @@ stands-lies {l} s b four sixteen bytes blocks =
 
 -- byte 24 says how many steps there are
 pub lies-count : (l : List ℕ) (b : Book) → Lies l b → getD l 24 0 ≡ length (b .history .kept)
-lies-count l b s = lies-stands l b s .bytes 24 (omega arith) ∙ index-count b (s .four)
+lies-count l b s = lies-stands l b s .bytes 24 (omega arith) ∙ index-steps b (s .four)
 
 -- ---- a book with other steps
 module _ (b : Book) (four : length (b .drafts) ≡ 4) (steps : List (List Copy)) where
@@ -114,9 +102,7 @@ module _ (b : Book) (four : length (b .drafts) ≡ 4) (steps : List (List Copy))
   index-kept : (i : ℕ) → i < 32 → i ≢ 24 → bytesIn b i ≡ bytesIn (withKept b steps) i
   index-kept i h d = by-order i 24
       (λ g. index-low b four i g ∙ sym (index-low (withKept b steps) four i g))
-      (λ g. let e : i ≡ 25 + (i - 25) = omega arith in
-      ap (bytesIn b) e ∙ index-gap b four (i - 25) (omega arith) ∙ sym (index-gap (withKept b steps) four (i - 25) (omega arith))
-      ∙ sym (ap (bytesIn (withKept b steps)) e))
+      (λ g. index-mid b four i (omega arith) h ∙ sym (index-mid (withKept b steps) four i (omega arith) h))
 
   pub steps-lie : {l : List ℕ} {w : ℕ → ℕ} {h : ℕ → Option Content} → Stands l w h → length steps ≤ 16 → w 24 ≡ length steps
       → ((i : ℕ) → i < 32 → i ≢ 24 → w i ≡ bytesIn b i) → ((t : ℕ) → t < 478 → w (32 + t) ≡ segmentOf (slotOf steps t))
@@ -126,7 +112,7 @@ module _ (b : Book) (four : length (b .drafts) ≡ 4) (steps : List (List Copy))
       (λ i g. by-order i 32
       (λ p. by (eqb i 24)
       (λ e. let f : i ≡ 24 = eqb-true i 24 e in
-      ap w f ∙ count ∙ sym (index-count (withKept b steps) four) ∙ sym (ap (bytesIn (withKept b steps)) f))
+      ap w f ∙ count ∙ sym (index-steps (withKept b steps) four) ∙ sym (ap (bytesIn (withKept b steps)) f))
       (λ e. low i p (eqb-false i 24 e) ∙ index-kept i p (eqb-false i 24 e)))
       (λ p. let e : i ≡ 32 + (i - 32) = omega arith in
       ap w e ∙ bytes (i - 32) (omega arith) ∙ sym (index-step (withKept b steps) four (i - 32)) ∙ sym (ap (bytesIn (withKept b steps)) e)))
@@ -205,9 +191,9 @@ segment-put l b (suc i) (suc j) c low high one eight lies held there =
     stands-lies (stands-copy (lies-stands l b lies) i j (omega arith) (omega arith)) new (lies .four) (lies .sixteen)
     (λ k g. ap (λ (z : List ℕ). getD z k 0) (segments-index b j c))
     (λ k g. upd-at h j (h i) k (partsIn new k)
-    (λ e. held ∙ sym (elem-set-same (b .segments) j c (omega arith)) ∙ sym (parts-segment new j (omega arith)) ∙ ap (partsIn new) (sym e))
+    (λ e. held ∙ sym (get-same (b .segments) j c (omega arith)) ∙ sym (parts-segment new j (omega arith)) ∙ ap (partsIn new) (sym e))
     (λ d. by-order k 8
-    (λ p. parts-segment b k p ∙ sym (elem-set-other (b .segments) j k c d) ∙ sym (parts-segment new k p))
+    (λ p. parts-segment b k p ∙ sym (get-other (b .segments) j k c d) ∙ sym (parts-segment new k p))
     (λ p. parts-high b cs k p)))
 
 -- as the code leaves it

@@ -11,6 +11,7 @@ use lib.Seq.{length-take-le}
 use lib.Dec.{eqb}
 use borrow.Author.Tests.{eq-eqb, ne-eqb, eqb-true}
 use Rattle.laws.proofs.Tests.{by, by-order, impossible, apart}
+use Rattle.laws.proofs.Lookups.{get-none, get-some, get-take, get-more, get-last}
 use Rattle.codes.specs.Block.{Content}
 use Rattle.blocks.specs.Block.{blockOf, putBlock}
 use Rattle.blocks.specs.Content.{holding}
@@ -20,7 +21,6 @@ use Rattle.steps.specs.Calls.{older, numbers, oldOf, orElse}
 use Rattle.layout.specs.Lies.{Lies}
 use Rattle.moves.specs.Named.{named}
 use Rattle.moves.specs.Undo.{withKept}
-use Rattle.moves.proofs.StepsLists.{elem-none, elem-some, elem-take, elem-more, elem-last}
 use Rattle.moves.proofs.StepsStands.{Stands, upd, upd-other, upd-at, stands-set, stands-clear, stands-over, stands-same}
 use Rattle.moves.proofs.StepsIndex.{slot-none}
 use Rattle.moves.proofs.StepsLies.{bytesIn, partsIn, parts-segment, parts-past, lies-stands, lies-count, one-step}
@@ -36,12 +36,12 @@ stands-noted l b r n x y h lies =
 
 -- ---- the newest step goes
 none-at : (steps : List (List Copy)) (r j : ℕ) → length steps ≤ r → getElem? (orNone (getElem? steps r)) j ≡ none
-none-at steps r j h = ap (λ (o : Option (List Copy)). getElem? (orNone o) j) (elem-none steps r h)
+none-at steps r j h = ap (λ (o : Option (List Copy)). getElem? (orNone o) j) (get-none steps r h)
 
 older-same : (old : List (List Copy)) (r : ℕ) → r ≡ length old - 1 → 1 ≤ length old → (s : ℕ) → s ≢ r → getElem? (take r old) s ≡ getElem? old s
 older-same old r e one s d =
     let n : length (take r old) ≡ r = length-take-le r old (omega arith) in
-    by-order s r (λ h. elem-take r old s h) (λ h. elem-none (take r old) s (omega arith) ∙ sym (elem-none old s (omega arith)))
+    by-order s r (λ h. get-take r old s h) (λ h. get-none (take r old) s (omega arith) ∙ sym (get-none old s (omega arith)))
 
 pub popped : (l : List ℕ) (b : Book) (r : ℕ) → r ≡ getD l 24 0 - 1 → Lies l b → 1 ≤ length (b .history .kept)
     → Lies (putBlock (18 + 2 * r) (holding none) (putBlock (17 + 2 * r) (holding none) (noted l r r 0 0))) (withKept b (older (b .history .kept)))
@@ -73,7 +73,7 @@ at-there : (segments : List Content) (s : ℕ) (c : Content) → 1 ≤ s → s �
 at-there segments zero c h g = impossible (omega arith)
 at-there segments (suc k) c h g =
     let e : suc k - 1 ≡ k = omega arith in
-    let f : getElem? segments k ≡ some (getD segments k c) = elem-some segments k c (omega arith) in
+    let f : getElem? segments k ≡ some (getD segments k c) = get-some c segments k (omega arith) in
     ap (getElem? segments) e ∙ f ∙ ap (λ (o : Option Content). some (orElse o c)) (sym f)
 
 old-held : (segments : List Content) (cs : List Copy) (j s : ℕ) → getElem? (numbers cs) j ≡ some s → 1 ≤ s → s ≤ length segments
@@ -106,11 +106,11 @@ module _ (l : List ℕ) (b : Book) (n first second : ℕ) (count : n ≡ getD l 
   unfolding steps
   last j =
       ap (λ (o : Option (List Copy)). getElem? (orNone o) j)
-      (sym (ap (getElem? (b .history .kept ++ (map (oldOf (b .segments)) cs ∷ []))) here ∙ elem-last (b .history .kept) (map (oldOf (b .segments)) cs)))
+      (sym (ap (getElem? (b .history .kept ++ (map (oldOf (b .segments)) cs ∷ []))) here ∙ get-last (b .history .kept) (map (oldOf (b .segments)) cs)))
 
   others : (s : ℕ) → s ≢ n → getElem? steps s ≡ getElem? (b .history .kept) s
   unfolding steps
-  others s d = elem-more (b .history .kept) (map (oldOf (b .segments)) cs) s (λ e. d (e ∙ sym here))
+  others s d = get-more (b .history .kept) (map (oldOf (b .segments)) cs) s (λ e. d (e ∙ sym here))
 
   more : n + 1 ≡ length steps
   unfolding steps

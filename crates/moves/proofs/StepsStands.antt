@@ -133,3 +133,13 @@ module _ {l : List ℕ} {w : ℕ → ℕ} {h : ℕ → Option Content} (s : Stan
         bytes = λ i p. s .bytes i p ∙ f i p;
         blocks = λ k p. s .blocks k p ∙ ap holding (e k p);
       }
+
+-- a byte stored in block 0 where a list tells its bytes
+pub stands-list : (x : List ℕ) {l : List ℕ} {h : ℕ → Option Content} → Stands l (λ (i : ℕ). getD x i 0) h → (i v : ℕ) → i < 510 → length x ≡ 512
+    → Stands (set l i v) (λ (j : ℕ). getD (set x i v) j 0) h
+stands-list x {l} {h} s i v b e =
+    stands-same (stands-set s i v b) (λ (j : ℕ). getD (set x i v) j 0) h
+    (λ j g. upd-at (λ (n : ℕ). getD x n 0) i v j (getD (set x i v) j 0)
+    (λ f. sym (ap (λ (n : ℕ). getD (set x i v) n 0) f ∙ getD-set-same x i v 0 (omega arith)))
+    (λ d. sym (getD-set-other x i j v 0 d)))
+    (λ k g. refl)

@@ -2,18 +2,15 @@
 use mathlib.Core.Path.{_≡_, subst}
 use mathlib.Core.List.{List, map}
 use Prim.Native.Nat.{ℕ}
-use Rattle.refusal.specs.Answer.{Answer, ok, andThen}
-use Rattle.refusal.specs.Numbers.{wrongLength}
-use Rattle.blocks.specs.Block.{bookLength}
+use Rattle.refusal.specs.Answer.{ok}
 use Rattle.steps.specs.Book.{Book}
 use Rattle.steps.specs.Calls.{Call}
 use Rattle.layout.specs.Layout.{bytesOf}
-use Rattle.layout.specs.Sound.{Sound}
 use Rattle.serial.specs.Bytewise.{WholeBytes}
 use Rattle.serial.proofs.Lift.{whole-bytes}
 use Rattle.bulletin.specs.Segments.{Segment}
-use Rattle.bulletin.specs.Bulletin.{Bulletin, readBulletin}
-use Rattle.making.specs.Make.{bookFrom, makeRule}
+use Rattle.bulletin.specs.Bulletin.{readBulletin}
+use Rattle.making.specs.Make.{makeRule}
 use Rattle.making.proofs.Made.{by-then, ok-one}
 use Rattle.making.proofs.Sounding.{made-sound}
 

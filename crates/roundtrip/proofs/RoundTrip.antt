@@ -27,8 +27,8 @@ use Rattle.roundtrip.proofs.Fit.{short-spans, rendered-fit}
 use Rattle.roundtrip.proofs.Covered.{Told, told, covered-in, in-covered, told-ascending}
 use Rattle.roundtrip.proofs.Opens.{Opening, spans-open}
 use Rattle.roundtrip.proofs.Round.{read-starts, written-starts, written-reads}
+
 -- Place numbers: the bytes of a place spell its number, and six bytes that a place is read from are the bytes of its number.
-pub use Rattle.roundtrip.proofs.Spelled.{place-number, place-bytes}
 
 -- ---- the round trip
 -- What is written of strictly ascending places and of a DDHHMM in its ranges is read back as just these, wherever it stands and whatever follows it; z is the place of its purge element.

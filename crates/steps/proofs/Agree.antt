@@ -7,10 +7,12 @@ use mathlib.Core.Option.{Option, none, some}
 use lib.Dec.{eqb, leb}
 use lib.ListN.{length}
 use borrow.Author.Tests.{eq-eqb, ne-eqb}
+use Rattle.laws.proofs.Lookups.{some-same}
+use Rattle.laws.proofs.Tests.{or-no}
 use Rattle.codes.specs.Block.{Content}
 use Rattle.steps.specs.Book.{Copy, Draft, closed, working, at}
 use Rattle.steps.specs.Calls.{Work, taking, editing, inRange, copyOf, recopy, takes, works, ranged, work, has, touches, staled, stored}
-use Rattle.steps.proofs.Table.{some-same, isSome, at-put-other, at-put-some}
+use Rattle.steps.proofs.Table.{isSome, at-put-other, at-put-some}
 
 -- two lists of segments have the same numbers, and the same content at what the copies ks were taken from
 pub record Agree (ks : List Copy) (l m : List Content) : Type 0 where
@@ -38,7 +40,7 @@ unfolding has
 has-last s c [] = rw (eq-eqb s s refl)
 has-last s c (k ∷ ks) = or-map (eqb s (k .segment)) true _ (λ e. has-last s c ks) (or-true (eqb s (k .segment)))
 
-has-recopy : (x s : ℕ) (c : Content) (ks : List Copy) → has x (recopy s c ks) ≡ has x ks
+pub has-recopy : (x s : ℕ) (c : Content) (ks : List Copy) → has x (recopy s c ks) ≡ has x ks
 unfolding has recopy
 has-recopy x s c [] = refl
 has-recopy x s c (k ∷ ks) = ap (λ (r : Bool). eqb x (k .segment) || r) (has-recopy x s c ks)
@@ -98,13 +100,11 @@ pub agree-before : (i s : ℕ) (o : Option Content) (w : Work) (ks : List Copy) 
 agree-before i s o w ks l m a = record { shape = a .shape; alike = λ x h. a .alike x (work-has i s o w ks x h) }
 
 -- ---- a store keeps whatever it does not touch
-or-false-left : (a b : Bool) → (a || b) ≡ false → a ≡ false
-or-false-left true b h = h
-or-false-left false b h = refl
-
-or-false-right : (a b : Bool) → (a || b) ≡ false → b ≡ false
-or-false-right true b h = cc
-or-false-right false b h = h
+-- a draft that took nothing is not touched
+pub touches-none : (cs : List Copy) → touches cs [] ≡ false
+unfolding touches has
+touches-none [] = refl
+touches-none (c ∷ cs) = touches-none cs
 
 -- the number of a segment that was not taken is another than that of one that was
 other-number : (x s : ℕ) (ks : List Copy) → has x ks ≡ true → has s ks ≡ false → eqb x s ≡ false
@@ -114,10 +114,10 @@ pub stored-agree : (cs ks : List Copy) (l : List Content) → touches cs ks ≡ 
 unfolding touches stored
 stored-agree [] ks l h = agree-refl ks l
 stored-agree (c ∷ cs) ks l h =
-    agree-trans (stored-agree cs ks l (or-false-right (has (c .segment) ks) (touches cs ks) h))
+    agree-trans (stored-agree cs ks l (or-no (has (c .segment) ks) (touches cs ks) h .1))
     (record {
       shape = λ x. at-put-some (stored cs l) (c .segment) x (c .held);
-      alike = λ x g. at-put-other (stored cs l) (c .segment) x (c .held) (other-number x (c .segment) ks g (or-false-left (has (c .segment) ks) (touches cs ks) h));
+      alike = λ x g. at-put-other (stored cs l) (c .segment) x (c .held) (other-number x (c .segment) ks g (or-no (has (c .segment) ks) (touches cs ks) h .0));
     })
 
 -- a draft that is open and not stale after the store was so before, and took none of what was stored

@@ -6,11 +6,9 @@ use mathlib.Core.List.{List, [], _∷_, map}
 use mathlib.Core.Option.{Option, none, some}
 use lib.ListN.{getElem?, set}
 use lib.Dec.{eqb, eqb·suc-suc}
-use borrow.Author.Tests.{eqb-true, eq-eqb}
+use borrow.Author.Tests.{eqb-true, eqb-false}
+use Rattle.laws.proofs.Lookups.{get-other}
 use Rattle.steps.specs.Book.{Copy, Draft, closed, working, at, put, orClosed, draftAt}
-
-pub some-same : {A : Type 0} {x y : A} → some x ≡ some y → x ≡ y
-some-same e = cc
 
 -- is anything there?
 abbrev pub isSome : {A : Type 0} → Option A → Bool
@@ -20,17 +18,10 @@ isSome (some a) = true
 -- ---- any list
 module _ {A : Type 0} where
   -- a store changes nothing elsewhere
-  nth-set-other : (xs : List A) (d e : ℕ) (x : A) → eqb e d ≡ false → getElem? (set xs d x) e ≡ getElem? xs e
-  nth-set-other [] d e x h = refl
-  nth-set-other (y ∷ ys) zero zero x h = let z : true ≡ false = sym (eq-eqb 0 0 refl) ∙ h in cc
-  nth-set-other (y ∷ ys) zero (suc e) x h = refl
-  nth-set-other (y ∷ ys) (suc d) zero x h = refl
-  nth-set-other (y ∷ ys) (suc d) (suc e) x h = nth-set-other ys d e x (sym (eqb·suc-suc e d) ∙ h)
-
   pub at-put-other : (xs : List A) (d e : ℕ) (x : A) → eqb e d ≡ false → at (put xs d x) e ≡ at xs e
   at-put-other xs zero e x h = refl
   at-put-other xs (suc d) zero x h = refl
-  at-put-other xs (suc d) (suc e) x h = nth-set-other xs d e x (sym (eqb·suc-suc e d) ∙ h)
+  at-put-other xs (suc d) (suc e) x h = get-other xs d e x (eqb-false e d (sym (eqb·suc-suc e d) ∙ h))
 
   -- a store makes no number and takes none away
   nth-set-some : (xs : List A) (d e : ℕ) (x : A) → isSome (getElem? (set xs d x) e) ≡ isSome (getElem? xs e)

@@ -7,6 +7,7 @@ use mathlib.Core.List.{List, [], _∷_, _++_, append-assoc}
 use mathlib.Core.Option.{none}
 use lib.ListN.{length, getD, drop, length-append, drop-of-length-le}
 use lib.Seq.{sets, length-sets, drop-cons}
+use Rattle.codes.proofs.Sets.{Set, ascending-below}
 use Rattle.laws.proofs.Stores.{sets-then, sets-front}
 use Rattle.calendar.specs.declared.Stamp.{Stamp}
 use Rattle.codes.specs.Written.{runsOf, spansOf, elementsOf, purgeElement, blockElements, written}
@@ -17,7 +18,6 @@ use Rattle.writing.specs.Pen.{Inked, ahead, Fine, Turned, closing, close
 use Rattle.codes.specs.declared.Last.the-variants as last
 use Rattle.writing.specs.declared.Pen.{Pen}
 use Rattle.writing.specs.declared.State.{State}
-use Rattle.writing.proofs.Rising.{Set}
 use Rattle.writing.proofs.Inking.{inked-none, inked-on}
 
 abbrev pub origin : Pen
@@ -40,10 +40,10 @@ module _ (a : List ℕ) (ps : List ℕ) (set : Set ps) where
       record {
         done = [];
         inked = inked-none a origin (omega arith);
-        whole = ap (λ (qs : List ℕ). elementsOf none (spansOf (runsOf qs))) (drop-cons ps 0 0 (set .some));
-        fine = record { joined = open-one; below = let h = set .below 0 (set .some) in omega arith; low = omega arith };
+        whole = ap (λ (qs : List ℕ). elementsOf none (spansOf (runsOf qs))) (drop-cons ps 0 0 (set .one));
+        fine = record { joined = open-one; below = let h = ascending-below (set .up) 0 (set .one) in omega arith; low = omega arith };
         few = omega arith;
-        within = set .some;
+        within = set .one;
       }
 
   module _ (b : List ℕ) (s : State) (i : ℕ) (v : Begun a b s i ps) where

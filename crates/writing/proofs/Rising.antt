@@ -1,15 +1,14 @@
 -- Places that rise strictly, seen by a pass over them. Assumes nothing.
-use Prim.Native.Nat.{ℕ, zero, suc, _+_, _≤_, _<_}
+use Prim.Native.Nat.{ℕ, suc, _+_, _≤_, _<_}
 use native.Mathlib.Omega.{arith}
 use native.Mathlib.Numerals.{add-one}
 use mathlib.Core.Path.{_≡_, sym, ap, _∙_}
 use mathlib.Core.Bool.{true, false, _&&_}
-use mathlib.Core.List.{List, [], _∷_}
+use mathlib.Core.List.{List}
 use lib.ListN.{length, getD, drop, drop-of-length-le}
 use lib.Seq.{drop-cons}
 use lib.Dec.{leb, ltb}
-use borrow.Author.Tests.{le-leb, lt-leb, lt-ltb, le-ltb, leb-true, ltb-true}
-use Rattle.laws.proofs.Tests.{impossible, and-left, and-right}
+use borrow.Author.Tests.{le-leb, lt-leb, lt-ltb, le-ltb}
 use Rattle.codes.specs.Places.{placesEnd, capacity, ascends, isSet}
 
 -- The answer is that for the places from i on, the first of which is at least `least`.
@@ -52,26 +51,3 @@ module _ (ps : List ℕ) where
             within = omega arith;
             same = next ∙ rw (le-leb least (getD ps i 0) g, lt-ltb (getD ps i 0) placesEnd k, add-one (getD ps i 0), add-one i);
           }
-
--- each of them is a place
-ascends-below : (b : ℕ) (ps : List ℕ) → ascends b ps ≡ true → (i : ℕ) → i < length ps → getD ps i 0 < placesEnd
-unfolding ascends
-ascends-below b [] e i h = impossible (omega arith)
-ascends-below b (p ∷ ps) e zero h = ltb-true p placesEnd (and-right (leb b p) _ (and-left _ (ascends (suc p) ps) e))
-ascends-below b (p ∷ ps) e (suc i) h = ascends-below (suc p) ps (and-right (leb b p && ltb p placesEnd) _ e) i (omega arith)
-
--- what the writer needs of them
-pub record Set (ps : List ℕ) : Type 0 where
-  pub some : 1 ≤ length ps
-  pub few : length ps ≤ capacity
-  pub below : (i : ℕ) → i < length ps → getD ps i 0 < placesEnd
-
-pub set-is : (ps : List ℕ) → isSet ps ≡ true → Set ps
-unfolding isSet
-set-is ps e =
-    let both : (leb 1 (length ps) && leb (length ps) capacity) ≡ true = and-left _ (ascends 0 ps) e in
-    record {
-      some = leb-true 1 (length ps) (and-left _ (leb (length ps) capacity) both);
-      few = leb-true (length ps) capacity (and-right (leb 1 (length ps)) _ both);
-      below = ascends-below 0 ps (and-right (leb 1 (length ps) && leb (length ps) capacity) _ e);
-    }

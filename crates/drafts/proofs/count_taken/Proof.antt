@@ -1,11 +1,7 @@
-use native.Mathlib.Omega.{arith}
 use borrow.Author.Needs.{needs}
 use Rattle.drafts.proofs.Takes.{count-none, count-one, count-two}
 use Rattle.drafts.proofs.count_taken.Statement.{statement}
 use Rattle.drafts.proofs.count_taken.Tie as tie
-use Rattle.drafts.proofs.count_taken.Reads as reads
-use Rattle.drafts.proofs.count_taken.Lts as lts
-use Rattle.blocks.proofs.size.Reads as size-reads
 
 mul-size : tie.Need-mul-size
 mul-size c = search needs

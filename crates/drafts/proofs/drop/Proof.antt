@@ -5,13 +5,6 @@ use Rattle.drafts.proofs.Opens.{ends-short, ends-unsound}
 use Rattle.drafts.proofs.Drops.{drop-shut, drop-from, drop-to, drop-does}
 use Rattle.drafts.proofs.drop.Statement.{statement}
 use Rattle.drafts.proofs.drop.Tie as tie
-use Rattle.drafts.proofs.drop.Reads as reads
-use Rattle.drafts.proofs.drop.Lts as lts
-use Rattle.drafts.proofs.is_open.Reads as is-open-reads
-use Rattle.drafts.proofs.refused.Reads as refused-reads
-use Rattle.layout.proofs.is_sound.Reads as is-sound-reads
-use Rattle.moves.proofs.close_draft.Reads as close-draft-reads
-use Rattle.moves.proofs.seal_index.Reads as seal-index-reads
 
 refused-requires : tie.Need-refused-requires
 refused-requires c κs = search needs

@@ -1,11 +1,7 @@
-use native.Mathlib.Omega.{arith}
 use borrow.Author.Needs.{needs}
 use Rattle.drafts.proofs.Opens.{lowest-1, lowest-2, lowest-3, lowest-4, lowest-none}
 use Rattle.drafts.proofs.lowest_closed.Statement.{statement}
 use Rattle.drafts.proofs.lowest_closed.Tie as tie
-use Rattle.drafts.proofs.lowest_closed.Reads as reads
-use Rattle.drafts.proofs.lowest_closed.Lts as lts
-use Rattle.blocks.proofs.size.Reads as size-reads
 
 shared-slice-read-size : tie.Need-shared-slice-read-size
 shared-slice-read-size c = search needs

@@ -4,13 +4,6 @@ use Rattle.blocks.proofs.Numbers.{Bytes}
 use Rattle.drafts.proofs.Opens.{ends-short, ends-unsound, open-none, open-from, open-to, open-does}
 use Rattle.drafts.proofs.open.Statement.{statement}
 use Rattle.drafts.proofs.open.Tie as tie
-use Rattle.drafts.proofs.open.Reads as reads
-use Rattle.drafts.proofs.open.Lts as lts
-use Rattle.drafts.proofs.lowest_closed.Reads as lowest-closed-reads
-use Rattle.drafts.proofs.refused.Reads as refused-reads
-use Rattle.layout.proofs.is_sound.Reads as is-sound-reads
-use Rattle.moves.proofs.open_draft.Reads as open-draft-reads
-use Rattle.moves.proofs.seal_index.Reads as seal-index-reads
 
 refused-requires : tie.Need-refused-requires
 refused-requires c κs = search needs

@@ -4,14 +4,6 @@ use Rattle.blocks.proofs.Numbers.{Bytes}
 use Rattle.drafts.proofs.Takes.{take-admitted, take-long, take-sound, take-from, take-to, take-segment-from, take-segment-to, take-refused, take-again, take-full, take-does}
 use Rattle.drafts.proofs.take.Statement.{statement}
 use Rattle.drafts.proofs.take.Tie as tie
-use Rattle.drafts.proofs.take.Reads as reads
-use Rattle.drafts.proofs.take.Lts as lts
-use Rattle.drafts.proofs.admit.Reads as admit-reads
-use Rattle.drafts.proofs.count_taken.Reads as count-taken-reads
-use Rattle.drafts.proofs.find_copy.Reads as find-copy-reads
-use Rattle.drafts.proofs.refused.Reads as refused-reads
-use Rattle.moves.proofs.seal_index.Reads as seal-index-reads
-use Rattle.moves.proofs.take_copy.Reads as take-copy-reads
 
 admit-requires : tie.Need-admit-requires
 admit-requires c κs = search needs

@@ -2,11 +2,6 @@ use Rattle.history.proofs.CommitFound.{changes-are}
 use borrow.Author.Needs.{needs}
 use Rattle.history.proofs.changes_in.Statement.{statement}
 use Rattle.history.proofs.changes_in.Tie as tie
-use Rattle.history.proofs.changes_in.Reads as reads
-use Rattle.history.proofs.changes_in.Lts as lts
-use Rattle.blocks.proofs.size.Reads as size-reads
-use Rattle.history.proofs.differs.Reads as differs-reads
-use Rattle.history.proofs.pick.Reads as pick-reads
 
 mul-size : tie.Need-mul-size
 mul-size c = search needs

@@ -5,11 +5,6 @@ use Rattle.history.proofs.CommitRule.{commit-short, commit-unsound}
 use borrow.Author.Needs.{needs}
 use Rattle.history.proofs.commit.Statement.{statement}
 use Rattle.history.proofs.commit.Tie as tie
-use Rattle.history.proofs.commit.Reads as reads
-use Rattle.history.proofs.commit.Lts as lts
-use Rattle.history.proofs.commit_sound.Reads as commit-sound-reads
-use Rattle.history.proofs.refused.Reads as refused-reads
-use Rattle.layout.proofs.is_sound.Reads as is-sound-reads
 
 refused-requires : tie.Need-refused-requires
 refused-requires c κs = search needs

@@ -2,11 +2,6 @@ use borrow.Author.Needs.{needs}
 use Rattle.history.proofs.CommitStore.{leaves-none, leaves-one, leaves-two}
 use Rattle.history.proofs.commit_found.Statement.{statement}
 use Rattle.history.proofs.commit_found.Tie as tie
-use Rattle.history.proofs.commit_found.Reads as reads
-use Rattle.history.proofs.commit_found.Lts as lts
-use Rattle.history.proofs.commit_one.Reads as commit-one-reads
-use Rattle.history.proofs.commit_two.Reads as commit-two-reads
-use Rattle.history.proofs.finish.Reads as finish-reads
 
 finish-requires : tie.Need-finish-requires
 finish-requires c κs = search needs

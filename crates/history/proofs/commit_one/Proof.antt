@@ -3,11 +3,6 @@ use borrow.Author.Needs.{needs}
 use Rattle.history.proofs.CommitStore.{commit-one-done}
 use Rattle.history.proofs.commit_one.Statement.{statement}
 use Rattle.history.proofs.commit_one.Tie as tie
-use Rattle.history.proofs.commit_one.Reads as reads
-use Rattle.history.proofs.commit_one.Lts as lts
-use Rattle.history.proofs.finish.Reads as finish-reads
-use Rattle.history.proofs.replace_one.Reads as replace-one-reads
-use Rattle.moves.proofs.push_step.Reads as push-step-reads
 
 push-step-requires : tie.Need-push-step-requires
 push-step-requires c κs = search needs

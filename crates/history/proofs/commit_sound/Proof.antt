@@ -4,12 +4,6 @@ use Rattle.history.proofs.CommitRule.{first-low, second-low, steps-low,
 use borrow.Author.Needs.{needs}
 use Rattle.history.proofs.commit_sound.Statement.{statement}
 use Rattle.history.proofs.commit_sound.Tie as tie
-use Rattle.history.proofs.commit_sound.Reads as reads
-use Rattle.history.proofs.commit_sound.Lts as lts
-use Rattle.blocks.proofs.size.Reads as size-reads
-use Rattle.history.proofs.changes_in.Reads as changes-in-reads
-use Rattle.history.proofs.commit_found.Reads as commit-found-reads
-use Rattle.history.proofs.refused.Reads as refused-reads
 
 refused-requires : tie.Need-refused-requires
 refused-requires c κs = search needs

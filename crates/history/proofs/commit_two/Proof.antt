@@ -3,11 +3,6 @@ use borrow.Author.Needs.{needs}
 use Rattle.history.proofs.CommitStore.{commit-two-done}
 use Rattle.history.proofs.commit_two.Statement.{statement}
 use Rattle.history.proofs.commit_two.Tie as tie
-use Rattle.history.proofs.commit_two.Reads as reads
-use Rattle.history.proofs.commit_two.Lts as lts
-use Rattle.history.proofs.finish.Reads as finish-reads
-use Rattle.history.proofs.replace_two.Reads as replace-two-reads
-use Rattle.moves.proofs.push_step.Reads as push-step-reads
 
 push-step-requires : tie.Need-push-step-requires
 push-step-requires c κs = search needs

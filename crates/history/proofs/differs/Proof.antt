@@ -2,9 +2,6 @@ use Rattle.history.proofs.CommitFound.{differing-zero, differing-some}
 use borrow.Author.Needs.{needs}
 use Rattle.history.proofs.differs.Statement.{statement}
 use Rattle.history.proofs.differs.Tie as tie
-use Rattle.history.proofs.differs.Reads as reads
-use Rattle.history.proofs.differs.Lts as lts
-use Rattle.blocks.proofs.same_blocks.Reads as same-blocks-reads
 
 returns : tie.Need-returns
 returns c = search (differing-zero, needs)

@@ -2,10 +2,6 @@ use borrow.Author.Needs.{needs}
 use Rattle.history.proofs.CommitStore.{finish-done}
 use Rattle.history.proofs.finish.Statement.{statement}
 use Rattle.history.proofs.finish.Tie as tie
-use Rattle.history.proofs.finish.Reads as reads
-use Rattle.history.proofs.finish.Lts as lts
-use Rattle.moves.proofs.close_draft.Reads as close-draft-reads
-use Rattle.moves.proofs.seal_index.Reads as seal-index-reads
 
 close-draft-requires : tie.Need-close-draft-requires
 close-draft-requires c κs = search needs

@@ -2,8 +2,6 @@ use borrow.Author.Needs.{needs}
 use Rattle.history.proofs.CommitFound.{pick-up, pick-down, pick-first, pick-second, pick-none}
 use Rattle.history.proofs.pick.Statement.{statement}
 use Rattle.history.proofs.pick.Tie as tie
-use Rattle.history.proofs.pick.Reads as reads
-use Rattle.history.proofs.pick.Lts as lts
 
 returns : tie.Need-returns
 returns c = (search (pick-up, needs), search needs)

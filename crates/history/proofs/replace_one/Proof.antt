@@ -2,10 +2,6 @@ use borrow.Author.Needs.{needs}
 use Rattle.history.proofs.CommitStore.{replace-one-done}
 use Rattle.history.proofs.replace_one.Statement.{statement}
 use Rattle.history.proofs.replace_one.Tie as tie
-use Rattle.history.proofs.replace_one.Reads as reads
-use Rattle.history.proofs.replace_one.Lts as lts
-use Rattle.moves.proofs.mark_stale.Reads as mark-stale-reads
-use Rattle.moves.proofs.put_segment.Reads as put-segment-reads
 
 put-segment-requires : tie.Need-put-segment-requires
 put-segment-requires c κs = search needs

@@ -3,10 +3,6 @@ use borrow.Author.Needs.{needs}
 use Rattle.history.proofs.CommitStore.{replace-two-done}
 use Rattle.history.proofs.replace_two.Statement.{statement}
 use Rattle.history.proofs.replace_two.Tie as tie
-use Rattle.history.proofs.replace_two.Reads as reads
-use Rattle.history.proofs.replace_two.Lts as lts
-use Rattle.moves.proofs.mark_stale.Reads as mark-stale-reads
-use Rattle.moves.proofs.put_segment.Reads as put-segment-reads
 
 put-segment-requires : tie.Need-put-segment-requires
 put-segment-requires c κs = search needs

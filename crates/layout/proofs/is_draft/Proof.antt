@@ -1,4 +1,4 @@
-use borrow.Author.Tests.{eq-eqb, ne-eqb}
+use borrow.Author.Tests.{ne-eqb}
 use Rattle.layout.specs.Sound.{isDraft}
 use Rattle.layout.proofs.is_draft.Statement.{statement}
 use Rattle.layout.proofs.is_draft.Tie as tie

@@ -1,6 +1,5 @@
-use mathlib.Core.Path.{_≡_, sym, _∙_}
+use mathlib.Core.Path.{sym, _∙_}
 use Rattle.blocks.proofs.Blocks.{part-is}
-use Rattle.layout.specs.Sound.{isGood}
 use Rattle.layout.proofs.Tests.{good-used, good-unused}
 use borrow.Author.Needs.{needs}
 use Rattle.layout.proofs.is_good.Statement.{statement}

@@ -1,4 +1,3 @@
-use mathlib.Core.Path.{sym, _∙_}
 use Rattle.making.proofs.Writing.{write-short, write-broken}
 use borrow.Author.Needs.{needs}
 use Rattle.making.proofs.write.Statement.{statement}

@@ -13,9 +13,6 @@ use Rattle.moves.proofs.Drafts.{closed-draft}
 use borrow.Author.Needs.{needs}
 use Rattle.moves.proofs.close_draft.Statement.{statement}
 use Rattle.moves.proofs.close_draft.Tie as tie
-use Rattle.moves.proofs.close_draft.Reads as reads
-use Rattle.moves.proofs.close_draft.Lts as lts
-use Rattle.blocks.proofs.clear_block.Reads as clear-block-reads
 
 mul-open : tie.Need-mul-open
 mul-open c = search needs

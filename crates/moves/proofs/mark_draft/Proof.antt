@@ -2,9 +2,6 @@ use Rattle.moves.specs.Named.{meets, marked}
 use borrow.Author.Needs.{needs}
 use Rattle.moves.proofs.mark_draft.Statement.{statement}
 use Rattle.moves.proofs.mark_draft.Tie as tie
-use Rattle.moves.proofs.mark_draft.Reads as reads
-use Rattle.moves.proofs.mark_draft.Lts as lts
-use Rattle.blocks.proofs.size.Reads as size-reads
 
 mul-size : tie.Need-mul-size
 mul-size c = search needs

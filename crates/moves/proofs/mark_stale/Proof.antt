@@ -9,9 +9,6 @@ use Rattle.moves.proofs.DraftsStale.{all-marked}
 use borrow.Author.Needs.{needs}
 use Rattle.moves.proofs.mark_stale.Statement.{statement}
 use Rattle.moves.proofs.mark_stale.Tie as tie
-use Rattle.moves.proofs.mark_stale.Reads as reads
-use Rattle.moves.proofs.mark_stale.Lts as lts
-use Rattle.moves.proofs.mark_draft.Reads as mark-draft-reads
 
 mark-draft-requires : tie.Need-mark-draft-requires
 mark-draft-requires c κs = search needs

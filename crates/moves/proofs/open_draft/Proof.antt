@@ -3,8 +3,6 @@ use Rattle.moves.proofs.Drafts.{opened}
 use borrow.Author.Needs.{needs}
 use Rattle.moves.proofs.open_draft.Statement.{statement}
 use Rattle.moves.proofs.open_draft.Tie as tie
-use Rattle.moves.proofs.open_draft.Reads as reads
-use Rattle.moves.proofs.open_draft.Lts as lts
 
 mul-at : tie.Need-mul-at
 mul-at c = search needs

@@ -1,5 +1,4 @@
-use mathlib.Core.Path.{_≡_, refl, sym, ap, _∙_}
-use native.Mathlib.Omega.{arith}
+use mathlib.Core.Path.{sym, _∙_}
 use borrow.Author.Needs.{needs}
 use Rattle.moves.proofs.StepsForgot.{push-few, push-full}
 use Rattle.moves.proofs.push_step.Statement.{statement}

@@ -1,11 +1,8 @@
 use mathlib.Core.Path.{_∙_}
-use Rattle.moves.proofs.Sealing.{lies-sealed}
+use Rattle.layout.proofs.ForthBlocks.{lies-sealed}
 use borrow.Author.Needs.{needs}
 use Rattle.moves.proofs.seal_index.Statement.{statement}
 use Rattle.moves.proofs.seal_index.Tie as tie
-use Rattle.moves.proofs.seal_index.Reads as reads
-use Rattle.moves.proofs.seal_index.Lts as lts
-use Rattle.blocks.proofs.seal_block.Reads as seal-block-reads
 
 seal-block-requires : tie.Need-seal-block-requires
 seal-block-requires c κs = search needs

@@ -10,9 +10,6 @@ use Rattle.moves.proofs.Drafts.{taken}
 use borrow.Author.Needs.{needs}
 use Rattle.moves.proofs.take_copy.Statement.{statement}
 use Rattle.moves.proofs.take_copy.Tie as tie
-use Rattle.moves.proofs.take_copy.Reads as reads
-use Rattle.moves.proofs.take_copy.Lts as lts
-use Rattle.blocks.proofs.copy_block.Reads as copy-block-reads
 
 mul-copy-block : tie.Need-mul-copy-block
 mul-copy-block c = search needs
