@@ -1,0 +1,175 @@
+-- What is packed is unpacked again: answers, bytes, views and storms. Assumes nothing.
+use Prim.Native.Nat.{ℕ, zero, suc, _+_, _*_, _/_, _%_, _≤_, _<_}
+use native.Mathlib.Nat.{zero-add, add-mul-mod-self-left, mod-eq-of-lt, add-mul-div-left, div-eq-of-lt, div-div-eq-div-mul}
+use native.Mathlib.Omega.{arith}
+use mathlib.Core.Path.{_≡_, refl, sym, ap, ap₂, _∙_}
+use mathlib.Core.Bool.{true, false, _&&_}
+use mathlib.Core.List.{List, [], _∷_}
+use lib.ListN.{length}
+use lib.Dec.{leb, eqb}
+use borrow.Author.Tests.{leb-true, ne-eqb}
+use Rattle.laws.proofs.Tests.{impossible, and-left, and-right}
+use Rattle.laws.proofs.Lists.{All, all-cons}
+use Rattle.refusal.specs.Numbers.{Reason, numberOf, wrongLength, wrongText, wrongHeading, wrongIdentifier, wrongTime, wrongBlock, noSegment, noEnd, ninthSegment, wrongStorm, tooManyPlaces, notSound, noDraft, allOpen, noSuchSegment, notTaken, takenAlready, twoTaken, segmentFull, onlyPlace, staleDraft, noStep, outputShort, outOfRange}
+use Rattle.refusal.specs.Answer.{Answer, ok, no, refused}
+use Rattle.blocks.proofs.Numbers.{low-byte, high-part}
+use Rattle.heading.specs.declared.Basin.{Basin}
+use Rattle.heading.specs.declared.Basin.the-variants.{Al, Sl, Ep, Cp, Wp}
+use Rattle.heading.specs.declared.Class.{Class}
+use Rattle.heading.specs.declared.Class.the-variants.{Cyclone, Internal, Training, Disturbance}
+use Rattle.heading.specs.declared.StormId.{StormId}
+use Rattle.heading.specs.declared.Storm.{Storm}
+use Rattle.heading.specs.declared.Storm.the-variants.{None, Found}
+use Rattle.plugin.specs.Packing.{restEnd, cell, pack, unpack, spelled, unspelled, startEnd, lengthEnd, View, viewBits, viewIn, basinNumber, basinOf, classNumber, classOf, yearEnd, stormBits, stormIn}
+
+-- ---- an answer
+cell-low : (low rest : ℕ) → low < 256 → cell low rest % 256 ≡ low
+unfolding cell
+cell-low low rest h = low-byte (low % 256) (rest % restEnd) (omega arith) ∙ mod-eq-of-lt h
+
+cell-rest : (low rest : ℕ) → rest < restEnd → cell low rest / 256 ≡ rest
+unfolding cell
+cell-rest low rest h = high-part (low % 256) (rest % restEnd) (omega arith) ∙ mod-eq-of-lt h
+
+-- an answer that is not lost: its value has 56 bits at most and is found again; or its number is none of 0, and its place has 56 bits at most
+pub data Kept {A : Type 0} (bits : A → ℕ) (value : ℕ → A) : Answer A → Type 0 where
+  kept-ok : (x : A) → bits x < restEnd → value (bits x) ≡ x → Kept bits value (ok x)
+  kept-no : {reason place : ℕ} → 1 ≤ reason → reason < 256 → place < restEnd → Kept bits value (no reason place)
+
+pub back : {A : Type 0} (bits : A → ℕ) (value : ℕ → A) (a : Answer A) → Kept bits value a → unpack value (pack bits a) ≡ a
+unfolding pack unpack
+back bits value (ok _) (kept-ok x h e) = rw (cell-low 0 (bits x) (omega arith), cell-rest 0 (bits x) h) (ap ok e)
+back bits value (no reason place) (kept-no low high h) =
+    let z : eqb reason 0 ≡ false = ne-eqb reason 0 (omega arith) in
+    rw (cell-low reason place high, cell-rest reason place h, z)
+
+-- the refusals' numbers are 1..24
+reason-low : (r : Reason) → (leb 1 (numberOf r) && leb (numberOf r) 24) ≡ true
+reason-low = elim [ wrongLength ↦ refl | wrongText ↦ refl | wrongHeading ↦ refl | wrongIdentifier ↦ refl | wrongTime ↦ refl | wrongBlock ↦ refl | noSegment ↦ refl | noEnd ↦ refl | ninthSegment ↦ refl | wrongStorm ↦ refl | tooManyPlaces ↦ refl | notSound ↦ refl | noDraft ↦ refl | allOpen ↦ refl | noSuchSegment ↦ refl | notTaken ↦ refl | takenAlready ↦ refl | twoTaken ↦ refl | segmentFull ↦ refl | onlyPlace ↦ refl | staleDraft ↦ refl | noStep ↦ refl | outputShort ↦ refl | outOfRange ↦ refl ]
+
+-- a byte that is not 0
+pub record Byte (b : ℕ) : Type 0 where
+  pub from : 1 ≤ b
+  pub below : b < 256
+
+pub reason-byte : (r : Reason) → Byte (numberOf r)
+reason-byte r =
+    let n = numberOf r in
+    let high : n ≤ 24 = leb-true n 24 (and-right (leb 1 n) (leb n 24) (reason-low r)) in
+    record { from = leb-true 1 n (and-left (leb 1 n) (leb n 24) (reason-low r)); below = omega arith }
+
+pub refused-kept : {A : Type 0} (bits : A → ℕ) (value : ℕ → A) (r : Reason) (place : ℕ) → place < restEnd → Kept bits value (refused r place)
+refused-kept bits value r place h = kept-no (reason-byte r .from) (reason-byte r .below) h
+
+-- ---- bytes
+
+unspelled-step : (n b s : ℕ) → Byte b → unspelled (suc n) (b % 256 + 256 * s) ≡ b ∷ unspelled n s
+unfolding unspelled
+unspelled-step n b s h =
+    let m : b % 256 ≡ b = mod-eq-of-lt (h .below) in
+    let z : eqb (b + 256 * s) 0 ≡ false = ne-eqb (b + 256 * s) 0 (omega (arith, h .from)) in
+    rw (m, z, low-byte b s (h .below), high-part b s (h .below))
+
+pub unspelled-spelled : (n : ℕ) (bs : List ℕ) → All Byte bs → length bs ≤ n → unspelled n (spelled bs) ≡ bs
+unfolding unspelled spelled
+unspelled-spelled zero [] a h = refl
+unspelled-spelled zero (b ∷ bs) a h = impossible (omega arith)
+unspelled-spelled (suc n) [] a h = refl
+unspelled-spelled (suc n) (b ∷ bs) (all-cons f a) h = unspelled-step n b (spelled bs) f ∙ ap (λ (r : List ℕ). b ∷ r) (unspelled-spelled n bs a (omega arith))
+
+-- three bytes have 24 bits
+pub spelled-low : (bs : List ℕ) → length bs ≤ 3 → spelled bs < 16777216
+unfolding spelled
+spelled-low [] h = omega arith
+spelled-low (a ∷ []) h = omega arith
+spelled-low (a ∷ b ∷ []) h = omega arith
+spelled-low (a ∷ b ∷ c ∷ []) h = omega arith
+spelled-low (a ∷ b ∷ c ∷ d ∷ bs) h = impossible (omega arith)
+
+-- ---- a view
+pub view-low : (v : View) → viewBits v < restEnd
+unfolding viewBits
+view-low v = omega arith
+
+pub view-back : (v : View) → v .start < startEnd → v .length < lengthEnd → viewIn (viewBits v) ≡ v
+unfolding viewBits viewIn
+view-back v hs hl =
+    let a : v .start % startEnd ≡ v .start = mod-eq-of-lt hs in
+    let b : v .length % lengthEnd ≡ v .length = mod-eq-of-lt hl in
+    let m : (v .start + startEnd * v .length) % startEnd ≡ v .start = add-mul-mod-self-left (v .start) startEnd (v .length) ∙ mod-eq-of-lt hs in
+    let d : (v .start + startEnd * v .length) / startEnd ≡ v .length
+    = add-mul-div-left (v .start) (v .length) {y = startEnd} (omega arith) ∙ ap (λ (z : ℕ). z + v .length) (div-eq-of-lt hs) ∙ zero-add (v .length) in
+    rw (a, b, m, d)
+
+-- ---- a storm
+basin-back : (b : Basin) → basinOf (basinNumber b) ≡ b
+basin-back = elim [ Al ↦ refl | Sl ↦ refl | Ep ↦ refl | Cp ↦ refl | Wp ↦ refl ]
+
+class-back : (c : Class) → classOf (classNumber c) ≡ c
+class-back = elim [ Cyclone ↦ refl | Internal ↦ refl | Training ↦ refl | Disturbance ↦ refl ]
+
+basin-low : (b : Basin) → (leb 1 (basinNumber b) && leb (basinNumber b) 5) ≡ true
+basin-low = elim [ Al ↦ refl | Sl ↦ refl | Ep ↦ refl | Cp ↦ refl | Wp ↦ refl ]
+
+class-low : (c : Class) → leb (classNumber c) 4 ≡ true
+class-low = elim [ Cyclone ↦ refl | Internal ↦ refl | Training ↦ refl | Disturbance ↦ refl ]
+
+-- the four parts of a number: three bytes, and the rest
+pub record Parted (a b c d : ℕ) : Type 0 where
+  pub first : (a + 256 * b + 65536 * c + 16777216 * d) % 256 ≡ a
+  pub second : (a + 256 * b + 65536 * c + 16777216 * d) / 256 % 256 ≡ b
+  pub third : (a + 256 * b + 65536 * c + 16777216 * d) / 65536 % 256 ≡ c
+  pub rest : (a + 256 * b + 65536 * c + 16777216 * d) / 16777216 ≡ d
+
+pub parted : (a b c d : ℕ) → a < 256 → b < 256 → c < 256 → Parted a b c d
+parted a b c d ha hb hc =
+    let cd : ℕ = c + 256 * d in
+    let bcd : ℕ = b + 256 * cd in
+    let v : ℕ = a + 256 * bcd in
+    let e : a + 256 * b + 65536 * c + 16777216 * d ≡ v = omega arith in
+    let v1 : v / 256 ≡ bcd = high-part a bcd ha in
+    let v2 : v / 65536 ≡ cd = sym (div-div-eq-div-mul v 256 256) ∙ ap (λ (z : ℕ). z / 256) v1 ∙ high-part b cd hb in
+    let v3 : v / 16777216 ≡ d = sym (div-div-eq-div-mul v 65536 256) ∙ ap (λ (z : ℕ). z / 256) v2 ∙ high-part c d hc in
+    record {
+      first = ap (λ (z : ℕ). z % 256) e ∙ low-byte a bcd ha;
+      second = ap (λ (z : ℕ). z / 256 % 256) e ∙ ap (λ (z : ℕ). z % 256) v1 ∙ low-byte b cd hb;
+      third = ap (λ (z : ℕ). z / 65536 % 256) e ∙ ap (λ (z : ℕ). z % 256) v2 ∙ low-byte c d hc;
+      rest = ap (λ (z : ℕ). z / 16777216) e ∙ v3;
+    }
+
+pub storm-low : (s : Storm) → stormBits s < restEnd
+unfolding stormBits
+storm-low None = omega arith
+storm-low (Found id) =
+    let b : basinNumber (id .basin) ≤ 5 = leb-true (basinNumber (id .basin)) 5 (and-right (leb 1 (basinNumber (id .basin))) (leb (basinNumber (id .basin)) 5) (basin-low (id .basin))) in
+    let c : classNumber (id .class) ≤ 4 = leb-true (classNumber (id .class)) 4 (class-low (id .class)) in
+    omega arith
+
+-- a storm's number has 8 bits, and its year 16
+pub data Small : Storm → Type 0 where
+  small-none : Small None
+  small-found : {id : StormId} → id .number < 256 → id .year < yearEnd → Small (Found id)
+
+id-back : (basin : Basin) (class : Class) (number year : ℕ) → number < 256 → year < yearEnd
+    → stormIn (basinNumber basin + 256 * classNumber class + 65536 * number + 16777216 * year) ≡ Found (record { basin = basin; class = class; number = number; year = year })
+unfolding stormIn
+id-back basin class number year hn hy =
+    let b = basinNumber basin in
+    let c = classNumber class in
+    let low : 1 ≤ b = leb-true 1 b (and-left (leb 1 b) (leb b 5) (basin-low basin)) in
+    let high : b ≤ 5 = leb-true b 5 (and-right (leb 1 b) (leb b 5) (basin-low basin)) in
+    let most : c ≤ 4 = leb-true c 4 (class-low class) in
+    let p : Parted b c number year = parted b c number year (omega arith) (omega arith) hn in
+    let z : eqb (b + 256 * c + 65536 * number + 16777216 * year) 0 ≡ false = ne-eqb (b + 256 * c + 65536 * number + 16777216 * year) 0 (omega arith) in
+    rw (z, p .first, p .second, p .third, p .rest, basin-back basin, class-back class)
+
+none-back : stormIn 0 ≡ None
+unfolding stormIn
+none-back = refl
+
+pub storm-back : (s : Storm) → Small s → stormIn (stormBits s) ≡ s
+unfolding stormBits
+storm-back None small-none = none-back
+storm-back (Found id) (small-found hn hy) =
+    ap₂ (λ (n y : ℕ). stormIn (basinNumber (id .basin) + 256 * classNumber (id .class) + 65536 * n + 16777216 * y)) (mod-eq-of-lt hn) (mod-eq-of-lt hy)
+    ∙ id-back (id .basin) (id .class) (id .number) (id .year) hn hy

@@ -1,0 +1,10 @@
+use Rattle.plugin.proofs.Ways.{cell-is}
+use borrow.Author.Needs.{needs}
+use Rattle.plugin.proofs.cell.Statement.{statement}
+use Rattle.plugin.proofs.cell.Tie as tie
+
+pub cell-spec : {M : Type 1} → statement M
+cell-spec = tie.close (tie.spec
+    (λ c. search needs)
+    (λ c. search needs)
+    (λ c. search (cell-is, needs)))

@@ -1,0 +1,11 @@
+use Rattle.plugin.proofs.Ways.{does-packed, does-left}
+use borrow.Author.Needs.{needs}
+use Rattle.plugin.proofs.hollgrimsa_drop.Statement.{statement}
+use Rattle.plugin.proofs.hollgrimsa_drop.Tie as tie
+
+pub hollgrimsa-drop-spec : {M : Type 1} → statement M
+hollgrimsa-drop-spec = tie.close (tie.spec
+    (λ c κs. search needs)
+    (λ c κs. search needs)
+    (λ c. search needs)
+    (λ c. (search (does-packed, needs), search (does-left, needs))))

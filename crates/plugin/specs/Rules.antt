@@ -1,0 +1,57 @@
+-- What the reader's functions answer of a bulletin, and of one of its segments.
+use Prim.Native.Nat.{ℕ}
+use mathlib.Core.List.{List, map}
+use lib.ListN.{length, getElem?}
+use Rattle.refusal.specs.Answer.{Answer, ok, no, andThen}
+use Rattle.codes.specs.Block.{Content}
+use Rattle.steps.specs.Book.{at}
+use Rattle.steps.specs.Calls as calls
+use Rattle.steps.specs.Calls.{placeAt}
+use Rattle.bulletin.specs.Bulletin.{Bulletin, readBulletin}
+use Rattle.bulletin.specs.Segments as segments
+use Rattle.bulletin.specs.Report.{Report}
+use Rattle.bulletin.specs.declared.Segment.{Segment}
+use Rattle.making.specs.Make.{segmentOf}
+use Rattle.plugin.specs.Packing.{spelled, stormBits, viewed, viewBits}
+
+-- ---- of a bulletin
+abbrev pub issueIn : Report → ℕ
+issueIn r = r .issue
+
+abbrev pub countIn : Report → ℕ
+countIn r = length (r .segments)
+
+abbrev pub bbbIn : Report → ℕ
+bbbIn r = spelled (r .heading .bbb)
+
+abbrev pub identifierIn : Report → ℕ
+identifierIn r = r .identifier
+
+abbrev pub stormBitsIn : Report → ℕ
+stormBitsIn r = stormBits (r .storm)
+
+-- ---- of a segment
+abbrev pub viewBitsOf : Segment → ℕ
+viewBitsOf g = viewBits (viewed g)
+
+abbrev pub blockEndOf : Segment → ℕ
+blockEndOf g = g .block
+
+abbrev pub purgeOf : Segment → ℕ
+purgeOf g = g .purge
+
+abbrev pub countOf : Segment → ℕ
+countOf g = g .count
+
+-- the place at an index, as the book's call on a copy answers it: reading's refusals, 15, then 24
+abbrev pub contentsOf : Bulletin → List Content
+contentsOf b = map (λ (g : segments.Segment). g .content) (b .segments)
+
+abbrev pub placeOf : ℕ → Answer Content → calls.Answer
+placeOf i (ok c) = placeAt (getElem? (c .places) i)
+placeOf i (no reason place) = no reason place
+
+unfoldable pub placeIn : List ℕ → ℕ → ℕ → ℕ → ℕ → calls.Answer
+placeIn text year month n i =
+    andThen (readBulletin text year month) λ b.
+    placeOf i (segmentOf (at (contentsOf b) n))
