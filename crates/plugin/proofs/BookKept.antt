@@ -32,7 +32,7 @@ use Rattle.keeping.proofs.Editing.{fine-places, fine-purge}
 use Rattle.keeping.proofs.Working.{copy-fine}
 use Rattle.keeping.proofs.Changing.{changes-fine, newest-fine}
 use Rattle.keeping.proofs.Keeping.{draft-fine}
-use Rattle.plugin.specs.Packing.{packed, unpacked, valueBits, valueOf, editValue, workValue, unspelled}
+use Rattle.plugin.specs.Packing.{packed, unpacked, valueBits, valueOf, editValue, workValue, namedMost, segmentsIn}
 use Rattle.plugin.proofs.Kept.{Kept, kept-ok, back, refused-kept, Byte, spelled-low, unspelled-spelled}
 
 refusal-kept : (value : ℕ → Value) (r : Reason) → Kept valueBits value (refused r)
@@ -106,25 +106,22 @@ numbers-bytes : (issue n : ℕ) {ks : List Copy} → n ≤ 8 → All (FineCopy i
 numbers-bytes issue n h all-nil = all-nil
 numbers-bytes issue n h (all-cons f a) = all-cons (record { from = f .from; below = omega (arith, f .to) }) (numbers-bytes issue n h a)
 
-abbrev named : ℕ → Value
-named r = changed (unspelled 2 r)
-
-numbers-kept : (issue n : ℕ) (ks : List Copy) → n ≤ 8 → All (FineCopy issue n) ks → length ks ≤ 2 → Kept valueBits named (ok (changed (numbers ks)))
+numbers-kept : (issue n : ℕ) (ks : List Copy) → n ≤ 8 → All (FineCopy issue n) ks → length ks ≤ 2 → Kept valueBits segmentsIn (ok (changed (numbers ks)))
 unfolding valueBits
 numbers-kept issue n ks h f two =
     let long : length (numbers ks) ≡ length ks = length-map ks (λ (k : Copy). k .segment) in
     kept-ok (changed (numbers ks)) (omega (arith, spelled-low (numbers ks) (omega arith)))
-    (ap changed (unspelled-spelled 2 (numbers ks) (numbers-bytes issue n h f) (omega arith)))
+    (ap changed (unspelled-spelled namedMost (numbers ks) (numbers-bytes issue n h f) (omega arith)))
 
-commits-kept : (b : Book) (d : ℕ) (x : Draft) → Sound b → FineDraft (b .issue) (length (b .segments)) x → Kept valueBits named (commits b d x .0)
-commits-kept b d closed h f = refusal-kept named noDraft
-commits-kept b d (working ks true) h f = refusal-kept named staleDraft
+commits-kept : (b : Book) (d : ℕ) (x : Draft) → Sound b → FineDraft (b .issue) (length (b .segments)) x → Kept valueBits segmentsIn (commits b d x .0)
+commits-kept b d closed h f = refusal-kept segmentsIn noDraft
+commits-kept b d (working ks true) h f = refusal-kept segmentsIn staleDraft
 commits-kept b d (working ks false) h (working-fine f) =
     let c = changes-fine (b .issue) (length (b .segments)) (b .segments) ks false f in
     numbers-kept (b .issue) (length (b .segments)) (changes (b .segments) ks) (h .eight) (c .copies) (c .two)
 
-undoes-kept : (b : Book) (o : Option (List Copy)) → newest (b .history .kept) ≡ o → Sound b → Kept valueBits named (undoes b o .0)
-undoes-kept b none e h = refusal-kept named noStep
+undoes-kept : (b : Book) (o : Option (List Copy)) → newest (b .history .kept) ≡ o → Sound b → Kept valueBits segmentsIn (undoes b o .0)
+undoes-kept b none e h = refusal-kept segmentsIn noStep
 undoes-kept b (some cs) e h =
     let f = newest-fine (b .issue) (length (b .segments)) (b .history) cs (h .past) e in
     numbers-kept (b .issue) (length (b .segments)) cs (h .eight) (f .copies) (f .two)

@@ -73,12 +73,19 @@ abbrev pub workValue : Work → ℕ → Value
 workValue taking r = done
 workValue (editing e) r = editValue e r
 
+-- a commit or an undo names two segments at most
+abbrev pub namedMost : ℕ
+namedMost = 2
+
+abbrev pub segmentsIn : ℕ → Value
+segmentsIn r = changed (unspelled namedMost r)
+
 unfoldable pub valueOf : Call → ℕ → Value
 valueOf opening r = draft r
 valueOf (on d s w) r = workValue w r
-valueOf (commit d) r = changed (unspelled 2 r)
+valueOf (commit d) r = segmentsIn r
 valueOf (calls.drop d) r = done
-valueOf undo r = changed (unspelled 2 r)
+valueOf undo r = segmentsIn r
 
 abbrev pub unpacked : Call → ℕ → calls.Answer
 unpacked c = unpack (valueOf c)
