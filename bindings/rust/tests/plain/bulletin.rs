@@ -1,0 +1,122 @@
+//! Reading a whole bulletin, and viewing one of its segments.
+
+use super::blocks;
+use super::calendar::{Issue, Month};
+use super::heading::{parse_identifier, Heading};
+use super::lines::{self, Lines};
+use super::refusal::{self, Refusal};
+use super::storm::{Mnd, Storm};
+
+/// The most segments of a bulletin.
+pub const MAX_SEGMENTS: usize = 8;
+
+#[derive(Clone, Debug, PartialEq, Eq)]
+pub struct Bulletin {
+    pub heading: Heading,
+    pub identifier: [u8; 6],
+    pub storm: Option<Storm>,
+    /// The issue minute.
+    pub issue: u32,
+    pub segments: Vec<Segment>,
+}
+
+#[derive(Clone, Debug, PartialEq, Eq)]
+pub struct Segment {
+    /// Where its first line starts.
+    pub start: usize,
+    /// Where the line after its `$$` starts.
+    pub past: usize,
+    /// The purge minute.
+    pub purge: u32,
+    /// Ascending.
+    pub places: Vec<u32>,
+}
+
+/// Reads a bulletin of this year and month.
+pub fn read(text: &[u8], year: usize, month: usize) -> Result<Bulletin, Refusal> {
+    if text.is_empty() || text.len() > lines::MAX_TEXT {
+        return Err(Refusal::plain(refusal::LENGTH));
+    }
+    let month = Month::lent(year, month).ok_or(Refusal::plain(refusal::TIME))?;
+    lines::check(text)?;
+
+    let mut lines = Lines::from(text, 0);
+    let heading = lines.next().and_then(|line| Heading::parse(line.content));
+    let heading = heading.ok_or(Refusal::plain(refusal::LINE_1))?;
+    let line_2 = lines.at();
+    let identifier = lines.next().and_then(|line| parse_identifier(line.content));
+    let identifier = identifier.ok_or(Refusal::at(refusal::LINE_2, line_2))?;
+    let issue = Issue::new(month, heading.time).ok_or(Refusal::plain(refusal::TIME))?;
+
+    let mnd = Mnd::read(lines.clone())?;
+    let first = first_segment(text, lines, &mnd)?;
+    let segments = read_segments(text, first, &issue)?;
+    Ok(Bulletin {
+        heading,
+        identifier,
+        storm: mnd.storm,
+        issue: issue.minute,
+        segments,
+    })
+}
+
+/// The part of the text that is one segment, by number from 1.
+pub fn view(text: &[u8], year: usize, month: usize, number: usize) -> Result<&[u8], Refusal> {
+    let bulletin = read(text, year, month)?;
+    let segment = number
+        .checked_sub(1)
+        .and_then(|index| bulletin.segments.get(index));
+    let segment = segment.ok_or(Refusal::plain(refusal::NO_SUCH_SEGMENT))?;
+    Ok(&text[segment.start..segment.past])
+}
+
+/// Where the first segment starts; the lines go on with line 3.
+fn first_segment(text: &[u8], mut lines: Lines<'_>, mnd: &Mnd) -> Result<usize, Refusal> {
+    let none = Refusal::at(refusal::NO_SEGMENT, text.len());
+    let line_3 = lines.next().ok_or(none)?;
+    if line_3.is_blank() {
+        next_opening(text, mnd.past).ok_or(none)
+    } else if blocks::opens(line_3.content) {
+        Ok(line_3.start)
+    } else {
+        Err(Refusal::at(refusal::BLOCK, line_3.start))
+    }
+}
+
+/// The start of the first line from here on that opens a block.
+fn next_opening(text: &[u8], at: usize) -> Option<usize> {
+    Lines::from(text, at)
+        .find(|line| blocks::opens(line.content))
+        .map(|line| line.start)
+}
+
+fn read_segments(text: &[u8], first: usize, issue: &Issue) -> Result<Vec<Segment>, Refusal> {
+    let mut segments = Vec::with_capacity(MAX_SEGMENTS);
+    let mut next = Some(first);
+    while let Some(start) = next {
+        if segments.len() == MAX_SEGMENTS {
+            return Err(Refusal::at(refusal::NINTH_SEGMENT, start));
+        }
+        let segment = read_segment(text, start, issue)?;
+        next = next_opening(text, segment.past);
+        segments.push(segment);
+    }
+    Ok(segments)
+}
+
+fn read_segment(text: &[u8], start: usize, issue: &Issue) -> Result<Segment, Refusal> {
+    let block = blocks::read(text, start)?;
+    let no_minute = Refusal::at(refusal::TIME, block.purge_start);
+    let purge = issue.purge(block.purge).ok_or(no_minute)?;
+    if block.over {
+        return Err(Refusal::at(refusal::TOO_MANY_PLACES, start));
+    }
+    let end = Lines::from(text, block.past).find(|line| line.is_end_of_segment());
+    let end = end.ok_or(Refusal::at(refusal::NO_END, start))?;
+    Ok(Segment {
+        start,
+        past: end.past,
+        purge,
+        places: block.places,
+    })
+}

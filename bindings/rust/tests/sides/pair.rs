@@ -1,0 +1,57 @@
+//! Both sides at work on one book.
+
+use super::{Call, Core, Guarded, Plain, Tally, Told};
+
+/// The same book, worked on by both sides.
+#[derive(Clone)]
+pub struct Pair {
+    core: Guarded,
+    plain: Guarded,
+}
+
+impl Pair {
+    pub fn new(book: &[u8]) -> Self {
+        Pair {
+            core: Guarded::new(book),
+            plain: Guarded::new(book),
+        }
+    }
+
+    /// The book's bytes, which are the same on both sides.
+    pub fn book(&self) -> &[u8] {
+        self.core.lent()
+    }
+
+    /// Makes the call on both books and compares all there is.
+    pub fn perform(&mut self, call: Call, room: usize, tally: &mut Tally) -> Told {
+        let before = self.core.clone();
+        let untouched = Guarded::filled(room, 0x5A);
+        let (mut written, mut right_written) = (untouched.clone(), untouched.clone());
+        let told = call.on(&Core, self.core.lent_mut(), written.lent_mut());
+        let right = call.on(&Plain, self.plain.lent_mut(), right_written.lent_mut());
+        tally.note(&told);
+        assert_eq!(told, right, "{call:?}, output {room}");
+        assert!(self.core == self.plain, "{call:?}: {}", self.difference());
+        assert_eq!(written, right_written, "{call:?}, output {room}");
+        if told.is_err() {
+            assert!(
+                self.core == before,
+                "{call:?} is refused and changes a byte"
+            );
+            assert_eq!(written, untouched, "{call:?} is refused and writes");
+        }
+        told
+    }
+
+    /// Where the two books differ first.
+    fn difference(&self) -> String {
+        let bytes = self.core.lent().iter().zip(self.plain.lent());
+        match bytes.enumerate().find(|(_, (core, plain))| core != plain) {
+            Some((at, (core, plain))) => {
+                let (block, within) = (at / 512, at % 512);
+                format!("byte {within} of block {block} is {core}, not {plain}")
+            }
+            None => "the guard differs".to_string(),
+        }
+    }
+}

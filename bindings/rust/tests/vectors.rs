@@ -1,0 +1,75 @@
+//! Both sides against inputs with right answers.
+//!
+//! The inputs, cases-a and cases-b with endings `.in` and `.out`, are in the
+//! folder that HOLLGRIMSA_VECTORS names; without it they are skipped.
+
+mod plain;
+mod replay;
+mod sides;
+
+use std::path::{Path, PathBuf};
+use std::{env, fs};
+
+use replay::{replay, Calls};
+use sides::{Core, Plain};
+
+#[test]
+fn core_agrees_with_cases_a() {
+    compare("core", &Core, "cases-a");
+}
+
+#[test]
+fn core_agrees_with_cases_b() {
+    compare("core", &Core, "cases-b");
+}
+
+#[test]
+fn plain_agrees_with_cases_a() {
+    compare("plain", &Plain, "cases-a");
+}
+
+#[test]
+fn plain_agrees_with_cases_b() {
+    compare("plain", &Plain, "cases-b");
+}
+
+#[test]
+fn listing_example_agrees() {
+    let input = b"2002 04\nFPUS51 KXYZ 240822\nZFPXYZ\n\nZONE FORECAST\n\
+        NATIONAL WEATHER SERVICE ANYTOWN MD\n\nMDC005-003-006>007-005-242100-\nTEXT ONE\n$$\n\
+        VAZ053-250000-\nTEXT TWO\n$$\n";
+    let output = "H FPUS51 KXYZ 240822 - ZFPXYZ -\nS 1 16994700 4 MDC003-005>007-242100-\n\
+        S 2 16994880 1 VAZ053-250000-\n";
+    assert_eq!(plain::listing_of_input(input), output);
+    assert_eq!(Core.listing(&input[8..], 2002, 4), output);
+    assert_eq!(plain::listing_of_input(b"2002 4\n"), "R 24 0\n");
+}
+
+/// Replays one input and compares every line with its right answer.
+fn compare(side: &str, calls: &impl Calls, name: &str) {
+    let Some(folder) = env::var_os("HOLLGRIMSA_VECTORS").map(PathBuf::from) else {
+        println!("{side}, {name}: skipped, HOLLGRIMSA_VECTORS names no folder");
+        return;
+    };
+    let printed = replay(calls, &read(&folder, name, "in"));
+    let right = read(&folder, name, "out");
+    let lines = printed
+        .as_bytes()
+        .split(|&b| b == b'\n')
+        .zip(right.split(|&b| b == b'\n'));
+    for (number, (printed, right)) in (1..).zip(lines) {
+        let shown = String::from_utf8_lossy;
+        assert!(
+            printed == right,
+            "{side}, {name} line {number}\n{}\n{}",
+            shown(printed),
+            shown(right)
+        );
+    }
+    assert!(printed.as_bytes() == right, "{name}: one output is longer");
+    println!("{side}, {name}: {} lines agree", printed.lines().count());
+}
+
+fn read(folder: &Path, name: &str, ending: &str) -> Vec<u8> {
+    fs::read(folder.join(format!("{name}.{ending}"))).unwrap()
+}
