@@ -2,7 +2,8 @@
 ghost use mathlib.Core.Path.{_≡_};
 ghost use Prim.Native.Nat.{suc, _+_, _-_, _*_, _≤_};
 ghost use Rattle.calendar.specs.Calendar.{isIssueMonth, isMonth, isTime, monthLength, monthNumber, daysIn, startOf, monthOf, minuteOf, dateOf};
-ghost use Rattle.calendar.specs.Purge.{purgeOf, isPurge};
+ghost use Rattle.calendar.specs.Purge.{purgeOf};
+ghost use Rattle.calendar.specs.Window.{noWindow, within, WindowOf};
 ghost use Rattle.calendar.specs.Paper.{paperMoment, paperDated};
 ghost use Rattle.calendar.specs.Months.{InYear, Time, monthIn, paperFound};
 
@@ -197,27 +198,65 @@ pub fn purge_of(issue: usize, s: Stamp) -> Moment
     Moment::Nothing
 }
 
-// Whether a minute is the purge minute that its own DDHHMM gives.
-pub fn is_purge(issue: usize, minute: usize) -> bool
-    ensures { λ r. ⌜ r ≡ isPurge issue minute ⌝ }
+// The minutes that are their own purge minute under an issue. It is worked out once for the issue, and then asked of each minute.
+pub struct Window {
+    // The issue, and how long after its month's start it is.
+    pub issue: usize,
+    pub since: usize,
+    // Where the next month starts, and how long the issue's month is.
+    pub next: usize,
+    pub length: usize,
+    // Where the next month ends.
+    pub end: usize,
+}
+
+// No minute is in it: none is before 0.
+fn no_window() -> Window
+    ensures { λ r. ⌜ r ≡ noWindow ⌝ }
+{
+    Window {
+        issue: 0,
+        since: 0,
+        next: 0,
+        length: 0,
+        end: 0,
+    }
+}
+
+pub fn window_of(issue: usize) -> Window
+    ensures { λ r. ⌜ WindowOf issue r ⌝ }
 {
     let Found::In(m) = month_of(issue) else {
-        return false;
+        return no_window();
     };
     if 2099 < m.year {
+        return no_window();
+    }
+    let length = 1440 * m.days;
+    let next = m.start + length;
+    let end = next + 1440 * next_length(m.year, m.month);
+    Window {
+        issue,
+        since: issue - m.start,
+        next,
+        length,
+        end,
+    }
+}
+
+pub fn is_within(w: Window, minute: usize) -> bool
+    ensures { λ r. ⌜ r ≡ within w minute ⌝ }
+{
+    if minute < w.issue {
         return false;
     }
-    if minute < issue {
-        return false;
-    }
-    let next = m.start + 1440 * m.days;
-    if minute < next {
+    if minute < w.next {
         return true;
     }
-    let over = minute - next;
-    if 1440 * next_length(m.year, m.month) <= over {
+    if w.end <= minute {
         return false;
     }
     // The same DDHHMM in the issue's month comes first, if it is there and not before the issue.
-    !((over / 1440 + 1 <= m.days) & (issue <= m.start + over))
+    let over = minute - w.next;
+    !((over < w.length) & (w.since <= over))
 }

@@ -1,0 +1,11 @@
+use Rattle.calendar.proofs.Ways.{within-before, within-here, within-past, within-next}
+use borrow.Author.Needs.{needs}
+use Rattle.calendar.proofs.is_within.Statement.{statement}
+use Rattle.calendar.proofs.is_within.Tie as tie
+
+pub is-within-spec : {M : Type 1} → statement M
+is-within-spec = tie.close (tie.spec
+    (λ c. search (within-before, needs))
+    (λ c. search (within-here, needs))
+    (λ c. search (within-past, needs))
+    (λ c. search (within-next, needs)))
