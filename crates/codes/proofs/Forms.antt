@@ -2,19 +2,19 @@
 use Prim.Native.Nat.{ℕ, _≤_, _+_, _-_, _*_}
 use native.Mathlib.Nat.{add-zero}
 use native.Mathlib.Omega.{arith}
-use mathlib.Core.Path.{_≡_, refl, ap, _∙_}
+use mathlib.Core.Path.{_≡_, refl, sym, _∙_}
 use mathlib.Core.List.{List, [], _∷_, _++_}
 use mathlib.Core.Bool.{Bool, true, false, cond, _&&_, and-true, and-assoc}
 use lib.ListN.{length, getD, take, drop, length-drop, drop-of-length-le}
 use lib.Seq.{getD-drop, take-all, drop-drop}
 use lib.Dec.{ltb, leb, eqb}
 use borrow.Author.Tests.{eq-eqb, ne-eqb}
-use Rattle.lines.specs.Bytes.{capital, digit, oneOf, word, literally, begins, exactly}
+use Rattle.lines.specs.Bytes.{Kind, capital, digit, oneOf, word, literally, begins, exactly}
 use Rattle.lines.specs.Lines.{prefixForm, threeDigits}
 use Rattle.lines.proofs.Strings.{begins-is, begins-append, exactly-is}
 use Rattle.calendar.specs.Calendar.{isTime}
 use Rattle.codes.specs.Places.{prefixOf, twoOf, threeOf}
-use Rattle.codes.specs.Elements.{singleForm, rangeForm, purgeForm, isRange, numbers, stampOf, time, short, said}
+use Rattle.codes.specs.Elements.{covers, wrong, singleForm, rangeForm, purgeForm, isRange, numbers, stampOf, time, short, said}
 use Rattle.codes.specs.Cursor.{lastOf, paperSaid}
 use Rattle.codes.specs.declared.Last.{Last}
 use Rattle.codes.specs.declared.Last.the-variants.{Prefix, Nothing}
@@ -39,10 +39,14 @@ module _ (s : List ℕ) (k a b : ℕ) (ea : a ≡ getD s k 0) (eb : b ≡ getD s
         let e : k + 1 + 1 ≡ k + 2 = omega arith in
         simp (begins-is threeDigits s k (refl, (refl, (refl, tt))), e, p, q, r, ea, eb, ec, and-true, and-assoc)
 
-module _ (s : List ℕ) (a b c : ℕ) (ea : a ≡ getD s 0 0) (eb : b ≡ getD s 1 0) (ec : c ≡ getD s 2 0) where
-  pub full-by : (x y : Bool) → x ≡ capital a → y ≡ capital b → (x && y && oneOf "CZ" c) ≡ begins prefixForm s
-  full-by x y p q = simp (begins-is prefixForm s 0 (refl, (refl, (refl, tt))), p, q, ea, eb, ec, and-true, and-assoc)
+module _ (s : List ℕ) (a : ℕ) (ea : a ≡ getD s 0 0) (x : Bool) (p : x ≡ capital a) where
+  pub full-not : x ≡ false → false ≡ begins prefixForm s
+  full-not n = simp (begins-is prefixForm s 0 (refl, (refl, (refl, tt))), ← ea, ← p, n)
 
+  pub full-by : x ≡ true → (b c : ℕ) → b ≡ getD s 1 0 → c ≡ getD s 2 0 → (y : Bool) → y ≡ capital b → (y && oneOf "CZ" c) ≡ begins prefixForm s
+  full-by n b c eb ec y q = simp (begins-is prefixForm s 0 (refl, (refl, (refl, tt))), ← ea, ← p, n, q, eb, ec, and-true)
+
+module _ (s : List ℕ) (a b c : ℕ) (ea : a ≡ getD s 0 0) (eb : b ≡ getD s 1 0) (ec : c ≡ getD s 2 0) where
   pub prefix-by : (x y f : ℕ) → x ≡ a - 65 → y ≡ b - 65 → f ≡ cond (eqb c 90) 1 0 → (26 * x + y) * 2 + f ≡ prefixOf s
   prefix-by x y f p q r = simp (p, q, r, ea, eb, ec)
 
@@ -56,52 +60,73 @@ kind-c f e = simp (ne-eqb f 90 e)
 pub at-byte : (s : List ℕ) (i c : ℕ) → eqb 0 c ≡ false → begins (literally (c ∷ [])) (drop i s) ≡ eqb (getD s i 0) c
 at-byte s i c h = begins-is (literally (c ∷ [])) s i (h, tt) ∙ and-true (eqb (getD s i 0) c)
 
-pub single-is : (s : List ℕ) → exactly singleForm s ≡ (eqb (length s) 4 && (begins threeDigits (drop 0 s) && eqb (getD s 3 0) 45))
-single-is s = exactly-is singleForm s ∙ ap (λ (t : Bool). eqb (length s) 4 && t) (begins-append threeDigits (word "-") s ∙ rw (at-byte s 3 45 refl))
+of-length : (ks : List Kind) (s : List ℕ) → length s ≡ length ks → exactly ks s ≡ begins ks s
+of-length ks s l = exactly-is ks s ∙ rw (eq-eqb (length s) (length ks) l)
 
-pub range-is : (s : List ℕ)
-    → exactly rangeForm s ≡ (eqb (length s) 8 && (begins threeDigits (drop 0 s) && eqb (getD s 3 0) 62 && begins threeDigits (drop 4 s) && eqb (getD s 7 0) 45))
-range-is s =
-    exactly-is rangeForm s
-    ∙ ap (λ (t : Bool). eqb (length s) 8 && t)
-    (simp (begins-append threeDigits (word ">" ++ (threeDigits ++ word "-")) s, begins-append (word ">") (threeDigits ++ word "-") (drop 3 s), begins-append threeDigits (word "-") (drop 4 s), drop-drop, at-byte s 3 62 refl, at-byte s 7 45 refl, and-assoc))
+other-length : (ks : List Kind) (s : List ℕ) → (length s ≡ length ks → ⊥) → exactly ks s ≡ false
+other-length ks s l = exactly-is ks s ∙ rw (ne-eqb (length s) (length ks) l)
 
-pub purge-is : (s : List ℕ)
-    → exactly purgeForm s ≡ (eqb (length s) 7 && (begins threeDigits (drop 0 s) && begins threeDigits (drop 3 s) && eqb (getD s 6 0) 45))
-purge-is s =
-    exactly-is purgeForm s
-    ∙ ap (λ (t : Bool). eqb (length s) 7 && t)
-    (simp (begins-append threeDigits (threeDigits ++ word "-") s, begins-append threeDigits (word "-") (drop 3 s), drop-drop, at-byte s 6 45 refl, and-assoc))
+single-begins : (s : List ℕ) → begins singleForm s ≡ (begins threeDigits (drop 0 s) && eqb (getD s 3 0) 45)
+single-begins s = begins-append threeDigits (word "-") s ∙ rw (at-byte s 3 45 refl)
+
+range-begins : (s : List ℕ) → begins rangeForm s ≡ ((begins threeDigits (drop 0 s) && eqb (getD s 3 0) 62) && (begins threeDigits (drop 4 s) && eqb (getD s 7 0) 45))
+range-begins s =
+    simp (begins-append threeDigits (word ">" ++ (threeDigits ++ word "-")) s, begins-append (word ">") (threeDigits ++ word "-") (drop 3 s), begins-append threeDigits (word "-") (drop 4 s), drop-drop, at-byte s 3 62 refl, at-byte s 7 45 refl, and-assoc)
+
+purge-begins : (s : List ℕ) → begins purgeForm s ≡ (begins threeDigits (drop 0 s) && begins threeDigits (drop 3 s) && eqb (getD s 6 0) 45)
+purge-begins s =
+    simp (begins-append threeDigits (threeDigits ++ word "-") s, begins-append threeDigits (word "-") (drop 3 s), drop-drop, at-byte s 6 45 refl, and-assoc)
 
 -- ---- numbers
-module _ (p : ℕ) (s : List ℕ) (d : Bool) (first sign : ℕ) (ed : d ≡ begins threeDigits (drop 0 s)) (ef : first ≡ threeOf (drop 0 s)) (es : sign ≡ getD s 3 0) where
-  not-single : (t : Bool) → (eqb (length s) 4 && (d && eqb sign 45)) ≡ t → exactly singleForm s ≡ t
-  not-single t e = single-is s ∙ rw (← ed, ← es) e
+-- no form has another length
+pub numbers-wrong : (p : ℕ) (s : List ℕ) → (length s ≡ 4 → ⊥) → (length s ≡ 8 → ⊥) → paperSaid Wrong ≡ numbers p s
+unfolding numbers
+numbers-wrong p s f e = simp (other-length singleForm s f, other-length (word "ALL-") s f, other-length rangeForm s e)
 
-  pub numbers-single : (eqb (length s) 4 && (d && eqb sign 45)) ≡ true → paperSaid (Covers p first first) ≡ numbers p s
-  unfolding numbers
-  numbers-single e = simp (not-single true e, ef)
+module _ (p : ℕ) (s : List ℕ) (d : Bool) (sign : ℕ) (ed : d ≡ begins threeDigits (drop 0 s)) (es : sign ≡ getD s 3 0) where
+  -- four bytes: `nnn-` or `ALL-`
+  module _ (l : length s ≡ 4) where
+    single : (t : Bool) → (d && eqb sign 45) ≡ t → exactly singleForm s ≡ t
+    single t e = of-length singleForm s l ∙ single-begins s ∙ rw (← ed, ← es) e
 
-  module _ (e : (eqb (length s) 4 && (d && eqb sign 45)) ≡ false) (all : Bool) (ea : all ≡ begins (literally (65 ∷ 76 ∷ 76 ∷ 45 ∷ [])) s) where
-    not-all : (t : Bool) → (eqb (length s) 4 && all) ≡ t → exactly (word "ALL-") s ≡ t
-    not-all t f = exactly-is (word "ALL-") s ∙ rw (← ea) f
-
-    pub numbers-all : (eqb (length s) 4 && all) ≡ true → paperSaid (Covers p 0 0) ≡ numbers p s
+    pub one-number : (d && eqb sign 45) ≡ true → (n : ℕ) → n ≡ threeOf (drop 0 s) → paperSaid (Covers p n n) ≡ numbers p s
     unfolding numbers
-    numbers-all f = simp (not-single false e, not-all true f)
+    one-number e n en = simp (single true e, en)
 
-    module _ (f : (eqb (length s) 4 && all) ≡ false) (m : Bool) (last end : ℕ) (em : m ≡ begins threeDigits (drop 4 s)) (el : last ≡ threeOf (drop 4 s)) (en : end ≡ getD s 7 0) where
-      range : (t : Bool) → (eqb (length s) 8 && (d && eqb sign 62 && m && eqb end 45) && (leb 1 first && ltb first last)) ≡ t
-          → (exactly rangeForm s && isRange (threeOf s) (threeOf (drop 4 s))) ≡ t
-      range t g = ap (λ (x : Bool). x && isRange (threeOf s) (threeOf (drop 4 s))) (range-is s) ∙ rw (← ed, ← es, ← em, ← en, ← el, ← ef) g
+    module _ (e : (d && eqb sign 45) ≡ false) (all : Bool) (ea : all ≡ begins (literally (65 ∷ 76 ∷ 76 ∷ 45 ∷ [])) s) where
+      all-is : (t : Bool) → all ≡ t → exactly (word "ALL-") s ≡ t
+      all-is t f = of-length (word "ALL-") s l ∙ rw (← ea) f
 
-      pub numbers-range : (eqb (length s) 8 && (d && eqb sign 62 && m && eqb end 45) && (leb 1 first && ltb first last)) ≡ true → paperSaid (Covers p first last) ≡ numbers p s
+      pub one-all : all ≡ true → paperSaid (Covers p 0 0) ≡ numbers p s
       unfolding numbers
-      numbers-range g = simp (not-single false e, not-all false f, range true g, ef, el)
+      one-all f = simp (single false e, all-is true f)
 
-      pub numbers-wrong : (eqb (length s) 8 && (d && eqb sign 62 && m && eqb end 45) && (leb 1 first && ltb first last)) ≡ false → paperSaid Wrong ≡ numbers p s
+      pub one-wrong : all ≡ false → paperSaid Wrong ≡ numbers p s
       unfolding numbers
-      numbers-wrong g = simp (not-single false e, not-all false f, range false g)
+      one-wrong f = simp (single false e, all-is false f, other-length rangeForm s (λ x. omega arith))
+
+  -- eight bytes: `nnn>mmm-`
+  module _ (l : length s ≡ 8) where
+    only-range : (t : Bool) → (begins rangeForm s && isRange (threeOf s) (threeOf (drop 4 s))) ≡ t → cond t (covers p (threeOf s) (threeOf (drop 4 s))) wrong ≡ numbers p s
+    unfolding numbers
+    only-range t e = simp (other-length singleForm s (λ x. omega arith), other-length (word "ALL-") s (λ x. omega arith), of-length rangeForm s l, e)
+
+    pub range-start : (d && eqb sign 62) ≡ false → paperSaid Wrong ≡ numbers p s
+    range-start a = only-range false (simp (range-begins s, ← ed, ← es, a))
+
+    module _ (a : (d && eqb sign 62) ≡ true) (m : Bool) (end : ℕ) (em : m ≡ begins threeDigits (drop 4 s)) (en : end ≡ getD s 7 0) where
+      pub range-end : (m && eqb end 45) ≡ false → paperSaid Wrong ≡ numbers p s
+      range-end b = only-range false (simp (range-begins s, ← ed, ← es, ← em, ← en, a, b))
+
+      module _ (b : (m && eqb end 45) ≡ true) (first last : ℕ) (ef : first ≡ threeOf (drop 0 s)) (el : last ≡ threeOf (drop 4 s)) where
+        order : (t : Bool) → (leb 1 first && ltb first last) ≡ t → cond t (covers p first last) wrong ≡ numbers p s
+        order t o = rw (ef, el) (only-range t (simp (range-begins s, ← ed, ← es, ← em, ← en, a, b) (rw (← ef, ← el) o)))
+
+        pub range-covers : (leb 1 first && ltb first last) ≡ true → paperSaid (Covers p first last) ≡ numbers p s
+        range-covers o = order true o
+
+        pub range-order : (leb 1 first && ltb first last) ≡ false → paperSaid Wrong ≡ numbers p s
+        range-order o = order false o
 
 -- ---- the purge
 module _ (e : List ℕ) (d h m : ℕ) (ed : d ≡ twoOf (drop 0 e)) (eh : h ≡ twoOf (drop 2 e)) (em : m ≡ twoOf (drop 4 e)) (t : Bool) (et : t ≡ isTime (record { day = d; hour = h; minute = m })) where
@@ -117,26 +142,36 @@ module _ (e : List ℕ) (d h m : ℕ) (ed : d ≡ twoOf (drop 0 e)) (eh : h ≡ 
   time-wrong y = rw (← stamp, ← et, y)
 
 -- ---- the element
-module _ (s : List ℕ) (last : Last) (d h : Bool) (end : ℕ) (ed : d ≡ begins threeDigits (drop 0 s)) (eh : h ≡ begins threeDigits (drop 3 s)) (en : end ≡ getD s 6 0) where
-  purge-form : (t : Bool) → (eqb (length s) 7 && (d && h && eqb end 45)) ≡ t → exactly purgeForm s ≡ t
-  purge-form t e = purge-is s ∙ rw (← ed, ← eh, ← en) e
+module _ (s : List ℕ) where
+  pub purge-by : length s ≡ 7 → (d h : Bool) (end : ℕ) → d ≡ begins threeDigits (drop 0 s) → h ≡ begins threeDigits (drop 3 s) → end ≡ getD s 6 0
+      → (d && h && eqb end 45) ≡ exactly purgeForm s
+  purge-by l d h end ed eh en = simp (of-length purgeForm s l, purge-begins s, ed, eh, en)
 
-  pub said-time : (eqb (length s) 7 && (d && h && eqb end 45)) ≡ true → (r : Said) → paperSaid r ≡ time (stampOf s) → paperSaid r ≡ said (lastOf last) s
+  pub purge-not : (length s ≡ 7 → ⊥) → false ≡ exactly purgeForm s
+  purge-not n = sym (other-length purgeForm s n)
+
+module _ (s : List ℕ) (last : Last) (d : Bool) (ed : d ≡ exactly purgeForm s) where
+  pub said-time : d ≡ true → (r : Said) → paperSaid r ≡ time (stampOf s) → paperSaid r ≡ said (lastOf last) s
   unfolding said
-  said-time e r q = q ∙ simp (purge-form true e)
+  said-time e r q = q ∙ simp (← ed, e)
 
-  module _ (e : (eqb (length s) 7 && (d && h && eqb end 45)) ≡ false) (f : Bool) (ef : f ≡ begins prefixForm s) where
-    pub said-full : f ≡ true → (p : ℕ) → p ≡ prefixOf s → (rest : List ℕ) → rest ≡ take (length s - 3) (drop 3 s) → (r : Said) → paperSaid r ≡ numbers p rest → paperSaid r ≡ said (lastOf last) s
+  -- where the two forms meet: the numbers stand under a full element's own prefix and behind it, or under the last prefix and at the front
+  module _ (n : d ≡ false) (f : Bool) (ef : f ≡ begins prefixForm s) (under : Last) (k : ℕ) where
+    pub meets-full : f ≡ true → (p : ℕ) → p ≡ prefixOf s → under ≡ Prefix p → k ≡ 3 → said (lastOf last) s ≡ short (lastOf under) (drop k s)
+    unfolding said short
+    meets-full y p ep eu ek = simp (← ed, n, ← ef, y, eu, ek, ep)
+
+    pub meets-short : f ≡ false → under ≡ last → k ≡ 0 → said (lastOf last) s ≡ short (lastOf under) (drop k s)
     unfolding said
-    said-full y p ep rest er r q =
-        let whole : rest ≡ drop 3 s = er ∙ take-all (length s - 3) (drop 3 s) (omega (arith, length-drop 3 s)) in
-        q ∙ simp (purge-form false e, ← ef, y, whole, ep)
+    meets-short y eu ek = simp (← ed, n, ← ef, y, eu, ek)
 
-    module _ (n : f ≡ false) where
-      pub said-short : (p : ℕ) → last ≡ Prefix p → (r : Said) → paperSaid r ≡ numbers p s → paperSaid r ≡ said (lastOf last) s
-      unfolding said short
-      said-short p l r q = q ∙ simp (purge-form false e, ← ef, n, l)
+module _ (s : List ℕ) (last under : Last) (k : ℕ) (m : said (lastOf last) s ≡ short (lastOf under) (drop k s)) where
+  pub said-none : under ≡ Nothing → paperSaid Wrong ≡ said (lastOf last) s
+  unfolding short
+  said-none u = simp (m, u)
 
-      pub said-none : last ≡ Nothing → paperSaid Wrong ≡ said (lastOf last) s
-      unfolding said short
-      said-none l = simp (purge-form false e, ← ef, n, l)
+  pub said-numbers : (p : ℕ) → under ≡ Prefix p → (rest : List ℕ) → rest ≡ take (length s - k) (drop k s) → (r : Said) → paperSaid r ≡ numbers p rest → paperSaid r ≡ said (lastOf last) s
+  unfolding short
+  said-numbers p u rest er r q =
+      let whole : rest ≡ drop k s = er ∙ take-all (length s - k) (drop k s) (omega (arith, length-drop k s)) in
+      q ∙ simp (m, u, whole)

@@ -4,10 +4,10 @@ ghost use Prim.Native.Nat.{_-_, _≤_, _<_};
 ghost use mathlib.Core.Bool.{cond};
 ghost use lib.Dec.{eqb};
 ghost use lib.ListN.{length, drop};
-ghost use Rattle.lines.specs.Bytes.{begins};
+ghost use Rattle.lines.specs.Bytes.{begins, exactly};
 ghost use Rattle.lines.specs.Lines.{prefixForm, threeDigits};
 ghost use Rattle.codes.specs.Places.{prefixOf, twoOf, threeOf};
-ghost use Rattle.codes.specs.Elements.{numbers, stampOf, time, said};
+ghost use Rattle.codes.specs.Elements.{purgeForm, numbers, stampOf, time, said};
 ghost use Rattle.codes.specs.Cursor.{lastOf, paperSaid, Runs, stepAt};
 use calendar::Stamp;
 
@@ -87,14 +87,16 @@ fn digits(e: &[u8], k: usize) -> bool
     lines::digit(x) & lines::digit(y) & lines::digit(z)
 }
 
-// Whether two capitals and C or Z stand in front.
+// Whether two capitals and C or Z stand in front. Most elements are short and begin with a digit: one byte tells.
 fn is_full(e: &[u8]) -> bool
     ensures { λ r. ⌜ r ≡ begins prefixForm (now (e .entry)) ⌝ }
 {
-    let s = lines::byte(e, 0);
-    let t = lines::byte(e, 1);
-    let f = lines::byte(e, 2);
-    lines::capital(s) & lines::capital(t) & ((f == 67) | (f == 90))
+    if lines::capital(lines::byte(e, 0)) {
+        let t = lines::byte(e, 1);
+        let f = lines::byte(e, 2);
+        return lines::capital(t) & ((f == 67) | (f == 90));
+    }
+    false
 }
 
 // C is 0, Z is 1.
@@ -114,27 +116,48 @@ fn prefix(e: &[u8]) -> u32
     (26 * s + t) * 2 + f
 }
 
-// `nnn`, `ALL` or `nnn>mmm`, each with its `-`, under the prefix p.
+// `nnn` or `ALL`, with its `-`, under the prefix p.
+fn one(e: &[u8], p: u32) -> Said
+    requires { ⌜ length (now e) ≡ 4 ⌝ }
+    ensures { λ r. ⌜ paperSaid r ≡ numbers p (now (e .entry)) ⌝ }
+{
+    if digits(e, 0) & (lines::byte(e, 3) == 45) {
+        let n = three(e, 0);
+        return Said::Covers(p, n, n);
+    }
+    if lines::begins_with(e, b"ALL-") {
+        return Said::Covers(p, 0, 0);
+    }
+    Said::Wrong
+}
+
+// `nnn>mmm`, with its `-`, under the prefix p. No byte is read before those in front of it are right.
+fn range(e: &[u8], p: u32) -> Said
+    requires { ⌜ length (now e) ≡ 8 ⌝ }
+    ensures { λ r. ⌜ paperSaid r ≡ numbers p (now (e .entry)) ⌝ }
+{
+    if digits(e, 0) & (lines::byte(e, 3) == 62) {
+        if digits(e, 4) & (lines::byte(e, 7) == 45) {
+            let first = three(e, 0);
+            let last = three(e, 4);
+            if (1 <= first) & (first < last) {
+                return Said::Covers(p, first, last);
+            }
+        }
+    }
+    Said::Wrong
+}
+
+// `nnn`, `ALL` or `nnn>mmm`, each with its `-`, under the prefix p: the length tells which it can be.
 fn numbers(e: &[u8], p: u32) -> Said
     ensures { λ r. ⌜ paperSaid r ≡ numbers p (now (e .entry)) ⌝ }
 {
     let n = e.len();
-    let some = digits(e, 0);
-    let first = three(e, 0);
-    let sign = lines::byte(e, 3);
-    if (n == 4) & (some & (sign == 45)) {
-        return Said::Covers(p, first, first);
+    if n == 4 {
+        return one(e, p);
     }
-    let all = lines::begins_with(e, b"ALL-");
-    if (n == 4) & all {
-        return Said::Covers(p, 0, 0);
-    }
-    let more = digits(e, 4);
-    let last = three(e, 4);
-    let end = lines::byte(e, 7);
-    let range = (n == 8) & (some & (sign == 62) & more & (end == 45));
-    if range & ((1 <= first) & (first < last)) {
-        return Said::Covers(p, first, last);
+    if n == 8 {
+        return range(e, p);
     }
     Said::Wrong
 }
@@ -154,26 +177,34 @@ fn time(e: &[u8]) -> Said
     Said::Wrong
 }
 
+// Whether six digits and `-` are the whole element.
+fn six_digits(e: &[u8]) -> bool
+    ensures { λ r. ⌜ r ≡ exactly purgeForm (now (e .entry)) ⌝ }
+{
+    if e.len() == 7 {
+        return digits(e, 0) & digits(e, 3) & (lines::byte(e, 6) == 45);
+    }
+    false
+}
+
 // What the bytes of an element, with its `-`, say under the last prefix.
 fn read_element(e: &[u8], last: Last) -> Said
     ensures { λ r. ⌜ paperSaid r ≡ said (lastOf last) (now (e .entry)) ⌝ }
 {
-    let n = e.len();
-    let date = digits(e, 0);
-    let hour = digits(e, 3);
-    let end = lines::byte(e, 6);
-    if (n == 7) & (date & hour & (end == 45)) {
+    if six_digits(e) {
         return time(e);
     }
+    // A full element's own prefix stands in front of its numbers; those of a short one stand under the last. One call reads both.
+    let mut under = last;
+    let mut k: usize = 0;
     if is_full(e) {
-        let p = prefix(e);
-        let rest = lines::part(e, 3, n);
-        return numbers(rest, p);
+        under = Last::Prefix(prefix(e));
+        k = 3;
     }
-    match last {
-        Last::Prefix(p) => numbers(e, p),
-        Last::Nothing => Said::Wrong,
-    }
+    let Last::Prefix(p) = under else {
+        return Said::Wrong;
+    };
+    numbers(lines::part(e, k, e.len()), p)
 }
 
 // The place after the element that starts at `at`: after its `-`, or at its line's end.

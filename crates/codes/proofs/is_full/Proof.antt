@@ -1,4 +1,4 @@
-use Rattle.codes.proofs.Forms.{full-by}
+use Rattle.codes.proofs.Forms.{full-not, full-by}
 use borrow.Author.Needs.{needs}
 use Rattle.codes.proofs.is_full.Statement.{statement}
 use Rattle.codes.proofs.is_full.Tie as tie
@@ -12,4 +12,5 @@ is-full-spec =
     (λ c κs. search needs)
     (λ c κs. search needs)
     (λ c κs. search needs)
-    (λ c. search (full-by, needs)))
+    (λ c. search (full-by, needs))
+    (λ c. search (full-not, needs)))
