@@ -1,11 +1,10 @@
 -- The block, read by steps, with its places held by value. Assumes nothing.
-use Prim.Native.Nat.{ℕ, suc, _+_, _-_, _*_, _<_}
+use Prim.Native.Nat.{ℕ, suc, _+_, _-_, _<_}
 use native.Mathlib.Omega.{arith}
-use mathlib.Core.Path.{_≡_, refl, sym, ap, _∙_}
+use mathlib.Core.Path.{_≡_, refl, sym, ap, ap₂, subst, _∙_}
 use mathlib.Core.List.{List, []}
-use mathlib.Core.Bool.{false}
+use mathlib.Core.Bool.{Bool, true, false}
 use lib.ListN.{length, drop}
-use Rattle.laws.proofs.Tests.{by-order}
 use Rattle.calendar.specs.declared.Stamp.{Stamp}
 use Rattle.codes.specs.Places.{placeOf, nil, Low}
 use Rattle.codes.specs.Elements.{elementsFrom}
@@ -17,21 +16,13 @@ use Rattle.codes.specs.declared.Step.{Step}
 use Rattle.codes.proofs.Bounds.{Below}
 use Rattle.codes.proofs.Members.{run-length}
 use Rattle.codes.proofs.Steps.{readThen, read-step, Ahead, step-ahead}
-use Rattle.reading.specs.Held.{capped, grown, heldBy, Good, Grown, Covering, shortOf, paperBlock}
+use Rattle.reading.specs.Held.{capped, heldBy, Good, shortOf, paperBlock}
+use Rattle.reading.specs.Runs.{after, Grown}
 use Rattle.reading.specs.declared.Places.{Places}
+use Rattle.reading.specs.declared.Put.{Put}
+use Rattle.reading.specs.declared.Put.the-variants.{Total, Over}
 use Rattle.reading.specs.declared.Found.the-variants.{Whole, Wrong}
-use Rattle.reading.proofs.Sets.{capped-few, capped-many}
-
-pub covering : (t r : Places) (p n m : ℕ) → Grown t (p * 1000 + n) (p * 1000 + m + 1) r → Covering t p n m r
-covering t r p n m g =
-    let e : p * 1000 + m + 1 - (p * 1000 + n) ≡ suc m - n = omega arith in
-    record { good = g .good; held = g .held ∙ rw e }
-
--- more places stay more
-grown-capped : (n p : ℕ) (got : List ℕ) → grown n p (capped got) ≡ capped (insertRun n p got)
-grown-capped n p got =
-    by-order 120 (length got) (λ h. rw (capped-many got h) (sym (capped-many (insertRun n p got) (omega (arith, run-length n p got)))))
-    (λ h. rw (capped-few got h))
+use Rattle.reading.proofs.Sets.{capped-few, capped-many, held-many, held-is}
 
 -- the block from here is the block from its start
 pub record Reads (s : List ℕ) (at : ℕ) (c : Cursor) (t : Places) : Type 0 where
@@ -46,7 +37,10 @@ unfolding readBlock
 reads-start s at held h =
     record { got = []; good = record { long = h; few = omega arith; rising = nil }; held = sym (capped-few [] (omega arith)); known = tt; same = refl }
 
-module _ (s : List ℕ) (at : ℕ) (c : Cursor) (t : Places) (v : Reads s at c t) (r : Step) (e : r ≡ stepAt s c) where
+module _ (s : List ℕ) (at : ℕ) (c : Cursor) (array : List ℕ) (count : ℕ) (over : Bool) (v : Reads s at c (record { held = array; count = count; over = over })) (r : Step) (e : r ≡ stepAt s c) where
+  abbrev t : Places
+  t = record { held = array; count = count; over = over }
+
   then-is : readThen s (v .got) r ≡ readBlock s at
   then-is = ap (readThen s (v .got)) e ∙ sym (read-step s (v .got) c) ∙ v .same
 
@@ -66,12 +60,31 @@ module _ (s : List ℕ) (at : ℕ) (c : Cursor) (t : Places) (v : Reads s at c t
     pub reads-less : length s - next .at < length s - c .at
     reads-less = omega (arith, ahead .inside, ahead .more, ahead .within)
 
-    pub reads-on : (t′ : Places) → Covering t p n m t′ → Reads s at next t′
-    reads-on t′ g =
+    reads-on : (t′ : Places) → Good t′ → heldBy t′ ≡ capped (insertCovered p n m (v .got)) → Reads s at next t′
+    reads-on t′ g h =
         record {
           got = insertCovered p n m (v .got);
-          good = g .good;
-          held = g .held ∙ rw (v .held) (grown-capped (suc m - n) (placeOf p n) (v .got));
+          good = g;
+          held = h;
           known = rw (ahead .last) (ahead .low .known);
           same = rw (ahead .last) (ap (readThen s (v .got)) (sym q) ∙ then-is);
         }
+
+    -- more places stay more
+    pub reads-past : over ≡ true → Reads s at next t
+    reads-past o =
+        reads-on t (v .good)
+        (v .held ∙ capped-many (v .got) (held-many t (v .got) (v .held) o)
+        ∙ sym (capped-many (insertCovered p n m (v .got)) (omega (arith, held-many t (v .got) (v .held) o, run-length (suc m - n) (placeOf p n) (v .got)))))
+
+    module _ (o : over ≡ false) (array′ : List ℕ) (put : Put) (g : Grown array count (placeOf p n) (placeOf p m + 1) array′ put) where
+      reads-put : Reads s at next (after array′ count put)
+      reads-put =
+          let f : placeOf p m + 1 - placeOf p n ≡ suc m - n = omega arith in
+          reads-on (after array′ count put) (g .good) (g .held ∙ ap₂ (λ (k : ℕ) (l : List ℕ). capped (insertRun k (placeOf p n) l)) f (held-is t (v .got) (v .held) o))
+
+      pub reads-total : (total : ℕ) → put ≡ Total total → Reads s at next (record { held = array′; count = total; over = over })
+      reads-total total h = rw o (subst (λ (x : Put). Reads s at next (after array′ count x)) h reads-put)
+
+      pub reads-over : put ≡ Over → Reads s at next (record { held = array′; count = count; over = true })
+      reads-over h = subst (λ (x : Put). Reads s at next (after array′ count x)) h reads-put

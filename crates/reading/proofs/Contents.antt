@@ -3,10 +3,9 @@ use Prim.Native.Nat.{ℕ}
 use mathlib.Core.Path.{_≡_, sym, ap, _∙_}
 use mathlib.Core.List.{List}
 use mathlib.Core.Bool.{true, false}
-use mathlib.Core.Option.{none, some}
 use lib.ListN.{length}
 use borrow.Author.Tests.{le-leb, lt-leb}
-use Rattle.laws.proofs.Tests.{by-order, apart}
+use Rattle.laws.proofs.Tests.{apart}
 use Rattle.refusal.specs.Numbers.{wrongTime, wrongBlock, tooManyPlaces}
 use Rattle.refusal.specs.Answer.{ok, refused, refusalFor}
 use Rattle.calendar.specs.Purge.{purgeOf}
@@ -23,7 +22,7 @@ use Rattle.reading.specs.declared.Block.{Block}
 use Rattle.reading.specs.declared.Purge.{Purge}
 use Rattle.reading.specs.declared.Purge.the-variants.{At, Refused}
 use Rattle.reading.specs.declared.Content.{Content}
-use Rattle.reading.proofs.Sets.{capped-few, capped-many}
+use Rattle.reading.proofs.Sets.{held-many, held-few, held-is}
 
 -- what the code's block says of the block that is read
 wrong-is : (place : ℕ) (t : Places) (x : Read) → foundOf (Wrong place) t ≡ shortOf x → x ≡ wrongAt place
@@ -45,17 +44,11 @@ whole-is s at t (wrongAt p) e = apart cc
 
 -- ---- more than 120 places, or just these
 counted-many : (start minute : ℕ) (t : Places) (ps : List ℕ) → heldBy t ≡ capped ps → t .over ≡ true → counted start (record { purge = minute; places = ps }) ≡ refused tooManyPlaces start
-counted-many start minute t ps h o =
-    by-order 120 (length ps) (λ k. rw (lt-leb (length ps) 120 k))
-    λ k. let f : none ≡ some ps = rw o at h ∙ capped-few ps k in apart cc
+counted-many start minute t ps h o = rw (lt-leb (length ps) 120 (held-many t ps h o))
 
 counted-few : (start minute : ℕ) (t : Places) (ps : List ℕ) → heldBy t ≡ capped ps → t .over ≡ false
     → counted start (record { purge = minute; places = ps }) ≡ ok (record { purge = minute; places = listOf t })
-counted-few start minute t ps h o =
-    by-order 120 (length ps) (λ k. let f : some (listOf t) ≡ none = rw o at h ∙ capped-many ps k in apart cc)
-    λ k. let f : some (listOf t) ≡ some ps = rw o at h ∙ capped-few ps k in
-    let e : listOf t ≡ ps = cc in
-    rw (le-leb (length ps) 120 k, e)
+counted-few start minute t ps h o = rw (le-leb (length ps) 120 (held-few t ps h o), held-is t ps h o)
 
 -- ---- the ways out
 module _ (t : Places) (p : Purge) (place : ℕ) (r : Content) (e : r ≡ record { purge = p; places = t; last = place }) where

@@ -1,3 +1,4 @@
+pub mod Searches
 pub mod Sets
 pub mod Blocks
 pub mod Contents

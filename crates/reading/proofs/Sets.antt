@@ -1,4 +1,4 @@
--- Places by value: searched, moved, filled, and a run put in at once. Assumes nothing.
+-- Places in an array: moved, filled, and a run put in at once. Assumes nothing.
 use Prim.Native.Nat.{ℕ, zero, suc, _+_, _-_, _≤_, _<_}
 use native.Mathlib.Numerals.{add-one}
 use native.Mathlib.Nat.{add-zero, sub-zero}
@@ -8,43 +8,19 @@ use mathlib.Core.List.{List, _++_, append-assoc}
 use mathlib.Core.Bool.{true, false}
 use mathlib.Core.Option.{none, some}
 use lib.ListN.{length, getD, take, drop, set, length-set, length-append, length-drop}
-use lib.Seq.{paste, paste-zero, paste-suc, getD-take, length-take-le, take-append-le, take-take, take-all, take-at, drop-at}
+use lib.Seq.{paste, paste-zero, paste-suc, length-paste, length-take-le, take-append-le, take-take, take-all, take-at, drop-at}
 use borrow.Author.Tests.{le-leb, lt-leb}
-use Rattle.laws.proofs.Tests.{by-order, impossible}
+use Rattle.laws.proofs.Tests.{by-order, impossible, apart}
 use Rattle.laws.proofs.Lists.{drop-take}
 use Rattle.laws.proofs.Pastes.{up-turn}
-use Rattle.codes.specs.Places.{placesEnd, Ascending, upward, First}
+use Rattle.codes.specs.Places.{placesEnd, upward, First}
 use Rattle.codes.specs.Block.{insertRun}
-use Rattle.codes.proofs.Members.{from, run-split, below-take, from-drop, run-length, run-ascending}
-use Rattle.reading.specs.Held.{capped, listOf, Good, Grown}
+use Rattle.codes.proofs.Members.{run-split, below-take, from-drop, run-length, run-ascending}
+use Rattle.reading.specs.Held.{capped, listOf, heldBy, Good}
+use Rattle.reading.specs.Runs.{kept, allBelow, Grown}
 use Rattle.reading.specs.declared.Places.{Places}
-
--- ---- the search
-pub record Sought (held : List ℕ) (n p i : ℕ) : Type 0 where
-  pub within : i ≤ n
-  pub low : (j : ℕ) → j < i → getD held j 0 < p
-
-pub sought-start : (held : List ℕ) (n p : ℕ) → Sought held n p 0
-sought-start held n p = record { within = omega arith; low = λ j h. impossible (omega arith) }
-
-module _ (held : List ℕ) (n p i : ℕ) (v : Sought held n p i) (fits : n ≤ length held) where
-  pub sought-on : i < n → getD held i 0 < p → Sought held n p (i + 1)
-  sought-on h k = record { within = omega arith; low = λ j g. by-order j i (λ l. v .low j l) (λ l. let e : j ≡ i = omega arith in rw e k) }
-
-  first : (i < n → p ≤ getD held i 0) → First p (take n held) i
-  first k =
-      let l : length (take n held) ≡ n = length-take-le n held fits in
-      record {
-        within = omega (arith, v .within);
-        low = λ j h. rw (getD-take n held j 0 (omega (arith, v .within))) (v .low j h);
-        high = λ h. rw (getD-take n held i 0 (omega arith)) (k (omega arith));
-      }
-
-  pub sought-here : i < n → p ≤ getD held i 0 → First p (take n held) i
-  sought-here h k = first (λ g. k)
-
-  pub sought-end : n ≤ i → First p (take n held) i
-  sought-end h = first (λ g. impossible (omega arith))
+use Rattle.reading.specs.declared.Put.the-variants.{Total, Over}
+use Rattle.reading.proofs.Searches.{below-each}
 
 -- ---- moved up
 pub record Moved (held₀ held : List ℕ) (from to m k : ℕ) : Type 0 where
@@ -116,7 +92,7 @@ module _ (held₀ held : List ℕ) (at n p k q : ℕ) (v : Filled held₀ held a
   pub filled-done : n ≤ k → held ≡ paste held₀ at (upward p n) n
   filled-done h = let e : k ≡ n = omega (arith, v .left) in v .bytes ∙ rw e
 
--- ---- a run put in at once
+-- ---- at most 120
 pub capped-few : (l : List ℕ) → length l ≤ 120 → capped l ≡ some l
 unfolding capped
 capped-few l h = rw (le-leb (length l) 120 h)
@@ -125,27 +101,47 @@ pub capped-many : (l : List ℕ) → 120 < length l → capped l ≡ none
 unfolding capped
 capped-many l h = rw (lt-leb (length l) 120 h)
 
-pub grown-over : (t : Places) (p q : ℕ) → Good t → t .over ≡ true → Grown t p q t
-grown-over t p q g o = record { good = g; held = rw o }
+-- what is held says how many there are, and which
+module _ (t : Places) (l : List ℕ) (h : heldBy t ≡ capped l) where
+  pub held-many : t .over ≡ true → 120 < length l
+  held-many o = by-order 120 (length l) (λ k. k) (λ k. let f : none ≡ some l = rw o at h ∙ capped-few l k in apart cc)
 
-module _ (held : List ℕ) (count p q n i j : ℕ) (long : length held ≡ 120) (few : count ≤ 120) (rising : Ascending 0 (take count held)) (pq : p ≤ q) (en : n ≡ q - p)
-    (fi : First p (take count held) i) (fj : First q (take count held) j) where
+  pub held-few : t .over ≡ false → length l ≤ 120
+  held-few o = by-order 120 (length l) (λ k. let f : some (listOf t) ≡ none = rw o at h ∙ capped-many l k in apart cc) (λ k. k)
+
+  pub held-is : t .over ≡ false → listOf t ≡ l
+  held-is o = let f : some (listOf t) ≡ some l = rw o at h ∙ capped-few l (held-few o) in cc
+
+-- ---- a run put in at once
+module _ (held : List ℕ) (count p q n i j : ℕ) (g : Good (kept held count)) (pq : p ≤ q) (en : n ≡ q - p) (fi : First p (take count held) i) (fj : First q (take count held) j) where
   abbrev l : List ℕ
   l = take count held
 
   l-long : length l ≡ count
-  l-long = length-take-le count held (omega arith)
+  l-long = length-take-le count held (omega (arith, g .long, g .few))
 
   split : insertRun n p l ≡ take i l ++ (upward p n ++ drop j l)
   split =
       let e : p + n ≡ q = omega arith in
-      run-split n p rising ∙ rw (e, below-take p l i fi, from-drop q l j fj)
+      run-split n p (g .rising) ∙ rw (e, below-take p l i fi, from-drop q l j fj)
 
   run-long : length (insertRun n p l) ≡ i + n + (count - j)
   run-long = rw (split, length-append, length-append, length-take-le i l (fi .within), upward-length, length-drop) (omega (arith, l-long))
 
-  pub apart-enough : j ≤ i + n
-  apart-enough = omega (arith, run-long, run-length n p l, l-long, fj .within)
+  same-run : insertRun (q - p) p l ≡ insertRun n p l
+  same-run = ap (λ (k : ℕ). insertRun k p l) (sym en)
+
+  -- there are not more places between p and q than numbers
+  pub moves-up : j ≤ i + n
+  moves-up = omega (arith, run-long, run-length n p l, l-long, fj .within)
+
+  pub insert-over : 120 < i + n + (count - j) → Grown held count p q held Over
+  insert-over h =
+      record {
+        good = record { long = g .long; few = g .few; rising = g .rising };
+        held = rw same-run (sym (capped-many (insertRun n p l) (omega (arith, run-long))));
+        same = λ e. refl;
+      }
 
   -- after both moves the places stand in front
   module _ (room : i + n + (count - j) ≤ 120) where
@@ -182,31 +178,33 @@ module _ (held : List ℕ) (count p q n i j : ℕ) (long : length held ≡ 120) 
         ∙ regroup (take i l) (upward p n) (drop j l) (drop (i + n + (count - j)) held)
         ∙ ap (λ (x : List ℕ). x ++ drop (i + n + (count - j)) held) (sym split)
 
-    pub run-in : take (i + n + (count - j)) (paste moved i (upward p n) n) ≡ insertRun n p l
+    run-in : take (i + n + (count - j)) (paste moved i (upward p n) n) ≡ insertRun n p l
     run-in = ap (take (i + n + (count - j))) whole ∙ take-at (insertRun n p l) (drop (i + n + (count - j)) held) (i + n + (count - j)) run-long
 
--- ---- the ways out
-module _ (t : Places) (p q : ℕ) (g : Good t) (o : t .over ≡ false) (pq : p ≤ q) (n i j : ℕ) (en : n ≡ q - p)
-    (fi : First p (listOf t) i) (fj : First q (listOf t) j) where
-  pub with-many : 120 < i + n + (t .count - j) → Grown t p q (record { held = t .held; count = t .count; over = true })
-  with-many h =
-      record {
-        good = record { long = g .long; few = g .few; rising = g .rising };
-        held = rw o (sym (ap (λ (k : ℕ). capped (insertRun k p (listOf t))) (sym en)
-            ∙ capped-many (insertRun n p (listOf t)) (omega (arith, run-long (t .held) (t .count) p q n i j (g .long) (g .few) (g .rising) pq en fi fj))));
-      }
+    pub insert-total : q ≤ placesEnd → (array filled : List ℕ) → array ≡ moved → filled ≡ paste array i (upward p n) n → Grown held count p q filled (Total (i + n + (count - j)))
+    insert-total e array filled ea ef =
+        let la : length array ≡ length held = ap length ea ∙ length-paste held (i + n) (drop j held) (count - j) (omega (arith, g .long)) (omega (arith, g .few, g .long, length-drop j held)) in
+        let lf : length filled ≡ length array = ap length ef ∙ length-paste array i (upward p n) n (omega (arith, g .long)) (omega (arith, upward-length p n)) in
+        let is : take (i + n + (count - j)) filled ≡ insertRun n p l = rw (ef, ea) run-in in
+        record {
+          good = record { long = lf ∙ la ∙ g .long; few = room; rising = rw is (run-ascending n p (omega arith) (omega arith) (g .rising)) };
+          held = rw (is, same-run) (sym (capped-few (insertRun n p l) (omega (arith, run-long))));
+          same = λ x. apart cc;
+        }
 
-  pub with-few : q ≤ placesEnd → i + n + (t .count - j) ≤ 120 → (moved filled : List ℕ) → length filled ≡ length moved → length moved ≡ length (t .held)
-      → moved ≡ paste (t .held) (i + n) (drop j (t .held)) (t .count - j) → filled ≡ paste moved i (upward p n) n
-      → Grown t p q (record { held = filled; count = i + n + (t .count - j); over = false })
-  with-few e h moved filled lf lm em ef =
-      let same : take (i + n + (t .count - j)) filled ≡ insertRun n p (listOf t) = rw (ef, em) (run-in (t .held) (t .count) p q n i j (g .long) (g .few) (g .rising) pq en fi fj h) in
-      record {
-        good = record { long = lf ∙ lm ∙ g .long; few = h; rising = rw same (run-ascending n p (omega arith) (omega arith) (g .rising)) };
-        held = rw o (ap some same ∙ sym (ap (λ (k : ℕ). capped (insertRun k p (listOf t))) (sym en)
-            ∙ capped-few (insertRun n p (listOf t)) (omega (arith, run-long (t .held) (t .count) p q n i j (g .long) (g .few) (g .rising) pq en fi fj))));
-      }
+-- ---- behind places that are all below p nothing has to move
+module _ (held : List ℕ) (count p q n : ℕ) (g : Good (kept held count)) (pq : p ≤ q) (en : n ≡ q - p) (low : allBelow p (take count held) ≡ true) where
+  at-end : (x : ℕ) → p ≤ x → First x (take count held) count
+  at-end x h =
+      let l : length (take count held) ≡ count = length-take-le count held (omega (arith, g .long, g .few)) in
+      record { within = omega arith; low = λ j k. omega (arith, below-each p (take count held) low j (omega arith)); high = λ k. impossible (omega arith) }
 
-  -- there are not more places between p and q than numbers
-  pub moves-up : j ≤ i + n
-  moves-up = apart-enough (t .held) (t .count) p q n i j (g .long) (g .few) (g .rising) pq en fi fj
+  pub append-over : 120 < count + n → Grown held count p q held Over
+  append-over h = insert-over held count p q n count count g pq en (at-end p (omega arith)) (at-end q pq) (omega arith)
+
+  pub append-total : q ≤ placesEnd → count + n ≤ 120 → (filled : List ℕ) → filled ≡ paste held count (upward p n) n → Grown held count p q filled (Total (count + n))
+  append-total e h filled ef =
+      let z : 0 ≡ count - count = omega arith in
+      let sum : count + n ≡ count + n + (count - count) = omega arith in
+      let same : held ≡ paste held (count + n) (drop count held) (count - count) = paste-zero held (count + n) (drop count held) ∙ ap (paste held (count + n) (drop count held)) z in
+      rw sum (insert-total held count p q n count count g pq en (at-end p (omega arith)) (at-end q pq) (omega arith) e held filled same ef)

@@ -1,5 +1,5 @@
 -- What the code's types mean: places held by value, and the answers of reading a block.
-use Prim.Native.Nat.{ℕ, suc, _-_, _≤_}
+use Prim.Native.Nat.{ℕ, _≤_}
 use mathlib.Core.Path.{_≡_}
 use mathlib.Core.List.{List}
 use mathlib.Core.Bool.{Bool, true, false, cond}
@@ -8,9 +8,8 @@ use lib.ListN.{length, take}
 use lib.Dec.{leb}
 use Rattle.refusal.specs.Answer.{Answer, ok, paperRefusal}
 use Rattle.calendar.specs.declared.Stamp.{Stamp}
-use Rattle.codes.specs.Places.{placeOf, Ascending, capacity}
+use Rattle.codes.specs.Places.{Ascending, capacity}
 use Rattle.codes.specs.Block as codes
-use Rattle.codes.specs.Block.{insertRun}
 use Rattle.reading.specs.declared.Places.{Places}
 use Rattle.reading.specs.declared.Found.{Found}
 use Rattle.reading.specs.declared.Found.the-variants.{Whole, Wrong}
@@ -22,11 +21,6 @@ use Rattle.reading.specs.declared.Content.{Content}
 -- at most 120 places, or none: there are more
 unfoldable pub capped : List ℕ → Option (List ℕ)
 capped l = cond (leb (length l) capacity) (some l) none
-
--- n places from p up put into what is held
-abbrev pub grown : ℕ → ℕ → Option (List ℕ) → Option (List ℕ)
-grown n p none = none
-grown n p (some l) = capped (insertRun n p l)
 
 abbrev pub listOf : Places → List ℕ
 listOf t = take (t .count) (t .held)
@@ -43,16 +37,6 @@ pub record Good (t : Places) : Type 0 where
   pub long : length (t .held) ≡ capacity
   pub few : t .count ≤ capacity
   pub rising : Ascending 0 (listOf t)
-
--- the places from p up to before q were put in
-pub record Grown (t : Places) (p q : ℕ) (r : Places) : Type 0 where
-  pub good : Good r
-  pub held : heldBy r ≡ grown (q - p) p (heldBy t)
-
--- the places of an element were put in
-pub record Covering (t : Places) (prefix first last : ℕ) (r : Places) : Type 0 where
-  pub good : Good r
-  pub held : heldBy r ≡ grown (suc last - first) (placeOf prefix first) (heldBy t)
 
 -- ---- a block: its places if they are few enough, DDHHMM and the place of the purge element; or the place of the first wrong element
 pub data Short : Type 0 where

@@ -1,11 +1,13 @@
 // Place code blocks, read whole: document 01, "Segments and place code blocks".
 ghost use mathlib.Core.Path.{_≡_};
+ghost use mathlib.Core.Bool.{true};
 ghost use Prim.Native.Nat.{_+_, _≤_, _<_};
 ghost use lib.ListN.{length, take, drop};
 ghost use lib.Seq.{paste};
-ghost use Rattle.codes.specs.Places.{placesEnd, upward, First, Low};
+ghost use Rattle.codes.specs.Places.{placesEnd, placeOf, Ascending, upward, First, Low};
 ghost use Rattle.codes.specs.Block.{readBlock, contentAt, lastOf};
-ghost use Rattle.reading.specs.Held.{Good, Grown, Covering, shortOf, paperBlock, paperContent};
+ghost use Rattle.reading.specs.Held.{Good, shortOf, paperBlock, paperContent};
+ghost use Rattle.reading.specs.Runs.{kept, allBelow, Grown};
 use calendar::Moment;
 use calendar::Stamp;
 use codes::Cursor;
@@ -43,18 +45,25 @@ pub struct Content {
     pub last: usize,
 }
 
-// The first index, of n, whose place is not less than p.
+// A run put in: how many places are held now, or that they would be more than 120.
+enum Put {
+    Total(usize),
+    Over,
+}
+
+// The first index, of n, whose place is not less than p. It looks from the end down: the places of an element mostly belong there.
 fn first_from(held: &[u32], n: usize, p: u32) -> usize
     requires { ⌜ n ≤ length (now held) ⌝ }
+    requires { ⌜ Ascending 0 (take n (now held)) ⌝ }
     ensures is { λ r. ⌜ First p (take n (now (held .entry))) r ⌝ }
     ensures most { λ r. ⌜ r ≤ n ⌝ }
 {
-    let mut i = 0;
-    while i < n {
-        if p <= held[i] {
+    let mut i = n;
+    while 0 < i {
+        if held[i - 1] < p {
             return i;
         }
-        i += 1;
+        i -= 1;
     }
     i
 }
@@ -95,44 +104,71 @@ fn wide(n: u32) -> usize
     n as usize
 }
 
-// The places with those from p up to before q put in: what is below p stays, what is not below q moves up behind them.
-fn with_run(t: Places, p: u32, q: u32) -> Places
-    requires { ⌜ Good t ⌝ }
-    requires { ⌜ (p ≤ q) × (q ≤ placesEnd) ⌝ }
-    ensures { λ r. ⌜ Grown t p q r ⌝ }
+// Whether the first n places are all below p. They ascend, so the last one tells.
+fn are_below(held: &[u32], n: usize, p: u32) -> bool
+    requires { ⌜ n ≤ length (now held) ⌝ }
+    requires { ⌜ Ascending 0 (take n (now held)) ⌝ }
+    ensures { λ r. ⌜ r ≡ allBelow p (take n (now (held .entry))) ⌝ }
 {
-    if t.over {
-        return t;
+    if n == 0 {
+        return true;
     }
-    let count = t.count;
-    let mut held = t.held;
-    let n = wide(q - p);
-    let i = first_from(&held, count, p);
-    let j = first_from(&held, count, q);
-    let total = i + n + (count - j);
-    if 120 < total {
-        return Places {
-            held,
-            count,
-            over: true,
-        };
-    }
-    move_up(&mut held, j, i + n, count - j);
-    fill(&mut held, i, n, p);
-    Places {
-        held,
-        count: total,
-        over: false,
-    }
+    held[n - 1] < p
 }
 
-// The places with those of one element put in.
-fn covered(t: Places, prefix: u32, first: u32, last: u32) -> Places
-    requires { ⌜ Good t ⌝ }
-    requires { ⌜ Low prefix first last ⌝ }
-    ensures { λ r. ⌜ Covering t prefix first last r ⌝ }
+// Puts the places from p up to before q behind the first `count`, which are all below p.
+fn append(held: &mut [u32], count: usize, p: u32, q: u32) -> Put
+    requires { ⌜ Good (kept (now held) count) ⌝ }
+    requires { ⌜ (p ≤ q) × (q ≤ placesEnd) ⌝ }
+    requires { ⌜ allBelow p (take count (now held)) ≡ true ⌝ }
+    ensures { λ r. ⌜ Grown (now (held .entry)) count p q (now (held .exit)) r ⌝ }
 {
-    with_run(t, prefix * 1000 + first, prefix * 1000 + last + 1)
+    let n = wide(q - p);
+    let end = count + n;
+    if 120 < end {
+        return Put::Over;
+    }
+    fill(held, count, n, p);
+    Put::Total(end)
+}
+
+// Puts the places from p up to before q among the first `count`: what is below p stays, what is not below q moves up behind them.
+fn insert(held: &mut [u32], count: usize, p: u32, q: u32) -> Put
+    requires { ⌜ Good (kept (now held) count) ⌝ }
+    requires { ⌜ (p ≤ q) × (q ≤ placesEnd) ⌝ }
+    ensures { λ r. ⌜ Grown (now (held .entry)) count p q (now (held .exit)) r ⌝ }
+{
+    let n = wide(q - p);
+    let i = first_from(held, count, p);
+    let j = first_from(held, count, q);
+    let total = i + n + (count - j);
+    if 120 < total {
+        return Put::Over;
+    }
+    move_up(held, j, i + n, count - j);
+    fill(held, i, n, p);
+    Put::Total(total)
+}
+
+// Puts the places from p up to before q to the first `count`. Blocks are mostly written in ascending order, and then nothing has to move.
+fn put_run(held: &mut [u32], count: usize, p: u32, q: u32) -> Put
+    requires { ⌜ Good (kept (now held) count) ⌝ }
+    requires { ⌜ (p ≤ q) × (q ≤ placesEnd) ⌝ }
+    ensures { λ r. ⌜ Grown (now (held .entry)) count p q (now (held .exit)) r ⌝ }
+{
+    if are_below(held, count, p) {
+        return append(held, count, p, q);
+    }
+    insert(held, count, p, q)
+}
+
+// Puts the places of one element to the first `count`.
+fn cover(held: &mut [u32], count: usize, prefix: u32, first: u32, last: u32) -> Put
+    requires { ⌜ Good (kept (now held) count) ⌝ }
+    requires { ⌜ Low prefix first last ⌝ }
+    ensures { λ r. ⌜ Grown (now (held .entry)) count (placeOf prefix first) (placeOf prefix last + 1) (now (held .exit)) r ⌝ }
+{
+    put_run(held, count, prefix * 1000 + first, prefix * 1000 + last + 1)
 }
 
 // The block that starts at a place of the text.
@@ -144,24 +180,32 @@ pub fn read_block(text: &[u8], at: usize) -> Block
         at,
         last: Last::Nothing,
     };
-    let mut places = Places {
-        held: [0; 120],
-        count: 0,
-        over: false,
-    };
+    let mut held: [u32; 120] = [0; 120];
+    let mut count = 0;
+    let mut over = false;
     loop {
         let step = cursor.step(text);
         match step {
             Step::Covers(prefix, first, last, next) => {
-                places = covered(places, prefix, first, last);
                 cursor = next;
+                if over {
+                    continue;
+                }
+                let put = cover(&mut held, count, prefix, first, last);
+                let Put::Total(total) = put else {
+                    over = true;
+                    continue;
+                };
+                count = total;
             }
             Step::Purge(stamp, place) => {
                 let found = Found::Whole(stamp, place);
+                let places = Places { held, count, over };
                 return Block { found, places };
             }
             Step::Wrong(place) => {
                 let found = Found::Wrong(place);
+                let places = Places { held, count, over };
                 return Block { found, places };
             }
         }

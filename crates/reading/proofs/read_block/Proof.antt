@@ -1,15 +1,15 @@
 use borrow.Author.Needs.{needs}
 use Prim.Native.Nat.{_-_}
 use lib.ListN.{length}
-use Rattle.reading.proofs.Blocks.{Reads, reads-start, reads-low, reads-less, reads-on, reads-purge, reads-wrong}
+use Rattle.reading.proofs.Blocks.{Reads, reads-start, reads-low, reads-less, reads-past, reads-total, reads-over, reads-purge, reads-wrong}
 use Rattle.reading.proofs.read_block.Statement.{statement}
 use Rattle.reading.proofs.read_block.Tie as tie
 
 abbrev Inv-loop : tie.InvT-loop
-Inv-loop text at cursor₀ places₀ cursor places = Reads text at cursor places
+Inv-loop text at cursor₀ held₀ count₀ over₀ cursor held count over = Reads text at cursor (record { held = held; count = count; over = over })
 
 abbrev μ-loop : tie.MeasureT-loop
-μ-loop text at cursor₀ places₀ cursor places = length text - cursor .at
+μ-loop text at cursor₀ held₀ count₀ over₀ cursor held count over = length text - cursor .at
 
 pub read-block-spec : {M : Type 1} → statement M
 read-block-spec =
@@ -20,9 +20,16 @@ read-block-spec =
     (λ c. search (reads-start, needs))
     (λ c κs. search needs)
     (λ c. search needs)
-    (λ c κs. (search needs, search (reads-low, needs)))
     (λ c. search (reads-less, needs))
-    (λ c. search (reads-on, needs))
+    (λ c. search (reads-past, needs))
+    (λ c. search needs)
+    (λ c κs. (search needs, search (reads-low, needs)))
+    (λ c. search needs)
+    (λ c. search needs)
+    (λ c. search (reads-less, needs))
+    (λ c. search (reads-over, needs))
+    (λ c. search (reads-less, needs))
+    (λ c. search (reads-total, needs))
     (λ c. search needs)
     (λ c. (search (reads-purge, needs), search needs))
     (λ c. search needs)

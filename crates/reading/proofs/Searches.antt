@@ -1,0 +1,77 @@
+-- Places that ascend: the first that is not less than p, and whether all are less. Assumes nothing.
+use Prim.Native.Nat.{ℕ, zero, suc, _-_, _≤_, _<_}
+use native.Mathlib.Omega.{arith}
+use mathlib.Core.Path.{_≡_, refl}
+use mathlib.Core.List.{List, [], _∷_}
+use mathlib.Core.Bool.{true}
+use lib.ListN.{length, getD, take}
+use lib.Seq.{getD-take, length-take-le}
+use lib.Dec.{ltb}
+use borrow.Author.Tests.{ltb-true, lt-ltb}
+use Rattle.laws.proofs.Tests.{impossible, and-left, and-right, same-test}
+use Rattle.codes.specs.Places.{Ascending, nil, cons, First}
+use Rattle.reading.specs.Runs.{allBelow}
+
+-- ---- places that ascend
+from-bound : {b : ℕ} {l : List ℕ} → Ascending b l → (j : ℕ) → j < length l → b ≤ getD l j 0
+from-bound nil j h = impossible (omega arith)
+from-bound (cons g f a) zero h = g
+from-bound (cons {p = x} {ps = xs} g f a) (suc j) h = omega (arith, from-bound a j (omega arith))
+
+in-order : {b : ℕ} {l : List ℕ} → Ascending b l → (i j : ℕ) → i ≤ j → j < length l → getD l i 0 ≤ getD l j 0
+in-order nil i j k h = impossible (omega arith)
+in-order (cons g f a) zero zero k h = omega arith
+in-order (cons {p = x} {ps = xs} g f a) zero (suc j) k h = omega (arith, from-bound a j (omega arith))
+in-order (cons g f a) (suc i) zero k h = impossible (omega arith)
+in-order (cons g f a) (suc i) (suc j) k h = in-order a i j (omega arith) (omega arith)
+
+-- ---- the search
+-- up to one that is less than p all are
+lower : (held : List ℕ) (n p : ℕ) → Ascending 0 (take n held) → (k : ℕ) → k < n → n ≤ length held → getD held k 0 < p → (j : ℕ) → j ≤ k → getD (take n held) j 0 < p
+lower held n p rising k h fits l j g = omega (arith, in-order rising j k g (omega (arith, length-take-le n held fits)), getD-take n held k 0 h)
+
+pub record Sought (held : List ℕ) (n p i : ℕ) : Type 0 where
+  pub within : i ≤ n
+  pub high : i < n → p ≤ getD held i 0
+
+pub sought-start : (held : List ℕ) (n p : ℕ) → Sought held n p n
+sought-start held n p = record { within = omega arith; high = λ h. impossible (omega arith) }
+
+module _ (held : List ℕ) (n p i : ℕ) (v : Sought held n p i) (fits : n ≤ length held) (rising : Ascending 0 (take n held)) where
+  pub sought-on : 0 < i → p ≤ getD held (i - 1) 0 → Sought held n p (i - 1)
+  sought-on h k = record { within = omega (arith, v .within); high = λ g. k }
+
+  first : ((j : ℕ) → j < i → getD (take n held) j 0 < p) → First p (take n held) i
+  first k =
+      let l : length (take n held) ≡ n = length-take-le n held fits in
+      record { within = omega (arith, v .within); low = k; high = λ h. let g : i < n = omega arith in rw (getD-take n held i 0 g) (v .high g) }
+
+  pub sought-here : 0 < i → getD held (i - 1) 0 < p → First p (take n held) i
+  sought-here h k = first (λ j g. lower held n p rising (i - 1) (omega (arith, v .within)) fits k j (omega arith))
+
+  pub sought-end : i ≤ 0 → First p (take n held) i
+  sought-end h = first (λ j g. impossible (omega arith))
+
+-- ---- all below
+pub below-each : (p : ℕ) (l : List ℕ) → allBelow p l ≡ true → (j : ℕ) → j < length l → getD l j 0 < p
+unfolding allBelow
+below-each p [] e j h = impossible (omega arith)
+below-each p (x ∷ xs) e zero h = ltb-true x p (and-left (ltb x p) (allBelow p xs) e)
+below-each p (x ∷ xs) e (suc j) h = below-each p xs (and-right (ltb x p) (allBelow p xs) e) j (omega arith)
+
+each-below : (p : ℕ) (l : List ℕ) → ((j : ℕ) → j < length l → getD l j 0 < p) → allBelow p l ≡ true
+unfolding allBelow
+each-below p [] h = refl
+each-below p (x ∷ xs) h = rw (lt-ltb x p (h 0 (omega arith)), each-below p xs (λ j k. h (suc j) (omega arith)))
+
+pub none-below : (held : List ℕ) (n p : ℕ) → n ≡ 0 → true ≡ allBelow p (take n held)
+unfolding allBelow
+none-below held n p h = rw h
+
+pub last-below : (held : List ℕ) (n p : ℕ) → n ≤ length held → Ascending 0 (take n held) → (n ≡ 0 → ⊥) → ltb (getD held (n - 1) 0) p ≡ allBelow p (take n held)
+last-below held n p fits rising h =
+    let l : length (take n held) ≡ n = length-take-le n held fits in
+    let k : n - 1 < n = omega arith in
+    same-test (ltb (getD held (n - 1) 0) p) (allBelow p (take n held))
+    (λ e. each-below p (take n held) (λ j g. lower held n p rising (n - 1) k fits (ltb-true (getD held (n - 1) 0) p e) j (omega arith)))
+    (λ e. lt-ltb (getD held (n - 1) 0) p (omega (arith, below-each p (take n held) e (n - 1) (omega arith), getD-take n held (n - 1) 0 k)))
