@@ -1,28 +1,30 @@
 -- Scans of a block: the check's sum, zeros, ascending numbers, two parts side by side. Assumes nothing.
 use Prim.Native.Nat.{ℕ, suc, _+_, _*_, _-_, _%_, _≤_, _<_}
-use native.Mathlib.Nat.{mul-le-mul, add-zero, sub-zero}
+use native.Mathlib.Nat.{mul-le-mul, add-zero, zero-add}
 use native.Mathlib.Numerals.{add-one}
 use native.Mathlib.Omega.{arith}
 use mathlib.Core.Path.{_≡_, refl, sym, ap, _∙_}
-use mathlib.Core.Bool.{true, false, _&&_}
-use mathlib.Core.List.{List, _∷_}
+use mathlib.Core.Bool.{Bool, true, false, _&&_, and-true, and-assoc}
+use mathlib.Core.List.{List}
+use lib.Bits.{bitOr, bitAnd, or-add-and, and-le-l, and-le-r}
 use lib.ListN.{length, drop, getD, drop-of-length-le}
-use lib.Seq.{slice, slice-cons, slice-empty, drop-drop, drop-cons}
-use lib.Dec.{eqb, ltb, leb}
-use borrow.Author.Tests.{eq-eqb, ne-eqb, lt-ltb, le-ltb, le-leb, lt-leb}
-use Rattle.blocks.proofs.Numbers.{number-drop}
+use lib.Seq.{slice, slice-cons, slice-empty, drop-cons}
+use lib.Dec.{eqb, ltb}
+use borrow.Author.Tests.{eqb-true, eq-eqb, ne-eqb}
+use Rattle.laws.proofs.Tests.{same-test, and-left, and-right}
 use Rattle.codes.specs.Places.{ascends, placesEnd}
 use Rattle.blocks.specs.Block.{sumTo, checkOf, checked, allZero, numberAt, numbersOf, sameList}
+use Rattle.blocks.proofs.Numbers.{number-drop, numbers-length, numbers-at}
+use Rattle.blocks.proofs.Climbs.{Climbs, climbs-start, climbs-on, climbs-done}
 
--- ---- the check: the sum over the bytes below i, and 1
-pub record Summed (b : List ℕ) (i sum : ℕ) : Type 0 where
-  pub left : i ≤ 510
-  pub total : sum ≡ 1 + sumTo i b
-  pub small : sum ≤ 1 + 130050 * i
+-- ---- the check: the sum over the bytes from `from` up to i
+pub record Summed (b : List ℕ) (from to i sum : ℕ) : Type 0 where
+  pub left : i ≤ to
+  pub total : sumTo from b + sum ≡ sumTo i b
+  pub small : sum ≤ 130050 * i
 
-pub summed-start : (b : List ℕ) → Summed b 0 1
-unfolding sumTo
-summed-start b = record { left = omega arith; total = refl; small = omega arith }
+pub summed-start : (b : List ℕ) (from to : ℕ) → from ≤ to → Summed b from to from 0
+summed-start b from to h = record { left = h; total = add-zero (sumTo from b); small = omega arith }
 
 -- one term of the sum
 pub term-small : (i x : ℕ) → i < 510 → x < 256 → (i + 1) * x ≤ 130050
@@ -32,94 +34,104 @@ sum-more : (i : ℕ) (b : List ℕ) → sumTo (i + 1) b ≡ sumTo i b + (i + 1) 
 unfolding sumTo
 sum-more i b = rw add-one
 
-module _ (b : List ℕ) (i sum : ℕ) (v : Summed b i sum) where
-  pub summed-on : (x : ℕ) → i < 510 → x ≡ getD b i 0 → x < 256 → Summed b (i + 1) (sum + (i + 1) * x)
+module _ (b : List ℕ) (from to i sum : ℕ) (v : Summed b from to i sum) (few : to ≤ 510) where
+  pub summed-on : (x : ℕ) → i < to → x ≡ getD b i 0 → x < 256 → Summed b from to (i + 1) (sum + (i + 1) * x)
   summed-on x h e k =
-      let t : (i + 1) * x ≤ 130050 = term-small i x h k in
-      let s : sum ≡ 1 + sumTo i b = v .total in
-      let m : sum ≤ 1 + 130050 * i = v .small in
+      let t : (i + 1) * x ≤ 130050 = term-small i x (omega arith) k in
+      let s : sumTo from b + sum ≡ sumTo i b = v .total in
+      let m : sum ≤ 130050 * i = v .small in
       record { left = omega arith; total = rw (sum-more, ← e) (omega arith); small = omega arith }
 
-  pub summed-done : 510 ≤ i → sum % 65521 ≡ checkOf b
-  unfolding checkOf
+  pub summed-done : to ≤ i → sumTo from b + sum ≡ sumTo to b
   summed-done h =
-      let e : i ≡ 510 = omega (arith, v .left) in
-      ap (λ (s : ℕ). s % 65521) (v .total ∙ ap (λ (j : ℕ). 1 + sumTo j b) e)
+      let e : i ≡ to = omega (arith, v .left) in
+      v .total ∙ ap (λ (j : ℕ). sumTo j b) e
+
+  pub summed-small : sum ≤ 130050 * to
+  summed-small = omega (arith, v .left, v .small)
+
+-- the whole sum, and 1
+pub check-sum : (b : List ℕ) (s : ℕ) → sumTo 0 b + s ≡ 1 + sumTo 510 b → s % 65521 ≡ checkOf b
+unfolding checkOf sumTo
+check-sum b s e = ap (λ (t : ℕ). t % 65521) (sym (zero-add s) ∙ e)
 
 pub checked-is : (b : List ℕ) (c low high : ℕ) → c ≡ checkOf b → low ≡ getD b 510 0 → high ≡ getD b 511 0 → eqb c (low + 256 * high) ≡ checked b
 unfolding checked
 checked-is b c low high e l h = rw (e, l, h)
 
--- ---- zeros: the answer for the whole part is the answer from i on
-pub record Zeros (b : List ℕ) (from to i : ℕ) : Type 0 where
+-- ---- zeros: the answer for the whole part is that for the bytes before i, and from i on
+pub record Zeros (b : List ℕ) (from to i some : ℕ) : Type 0 where
   pub left : i ≤ to
-  pub rest : allZero (slice from to b) ≡ allZero (slice i to b)
+  pub rest : allZero (slice from to b) ≡ (eqb some 0 && allZero (slice i to b))
 
-pub zeros-start : (b : List ℕ) (from to : ℕ) → from ≤ to → Zeros b from to from
+pub zeros-start : (b : List ℕ) (from to : ℕ) → from ≤ to → Zeros b from to from 0
 zeros-start b from to h = record { left = h; rest = refl }
 
-module _ (b : List ℕ) (from to i : ℕ) (v : Zeros b from to i) where
-  pub zeros-done : to ≤ i → true ≡ allZero (slice from to b)
+-- no bit is set in either of two numbers
+or-zero : (x y : ℕ) → eqb (bitOr x y) 0 ≡ (eqb x 0 && eqb y 0)
+or-zero x y =
+    same-test (eqb (bitOr x y) 0) (eqb x 0 && eqb y 0)
+    (λ h. let e : bitOr x y ≡ 0 = eqb-true (bitOr x y) 0 h in
+    let s : bitOr x y + bitAnd x y ≡ x + y = or-add-and x y in
+    let p : bitAnd x y ≤ x = and-le-l x y in
+    let q : bitAnd x y ≤ y = and-le-r x y in
+    rw (eq-eqb x 0 (omega arith), eq-eqb y 0 (omega arith)))
+    (λ h. let s : bitOr x y + bitAnd x y ≡ x + y = or-add-and x y in
+    let p : x ≡ 0 = eqb-true x 0 (and-left (eqb x 0) (eqb y 0) h) in
+    let q : y ≡ 0 = eqb-true y 0 (and-right (eqb x 0) (eqb y 0) h) in
+    eq-eqb (bitOr x y) 0 (omega arith))
+
+module _ (b : List ℕ) (from to i some : ℕ) (v : Zeros b from to i some) where
+  pub zeros-done : to ≤ i → eqb some 0 ≡ allZero (slice from to b)
   unfolding allZero
   zeros-done h =
       let e : i ≡ to = omega (arith, v .left) in
-      sym (v .rest ∙ ap (λ (j : ℕ). allZero (slice j to b)) e ∙ ap allZero (slice-empty to b))
+      sym (v .rest ∙ ap (λ (j : ℕ). eqb some 0 && allZero (slice j to b)) e ∙ ap (λ (l : List ℕ). eqb some 0 && allZero l) (slice-empty to b) ∙ and-true (eqb some 0))
 
-  module _ (k : to ≤ length b) (h : i < to) where
-    pub zeros-no : (getD b i 0 ≡ 0 → ⊥) → false ≡ allZero (slice from to b)
-    unfolding allZero
-    zeros-no n = sym (v .rest ∙ ap allZero (slice-cons i to b 0 h k) ∙ rw (ne-eqb (getD b i 0) 0 n))
+  pub zeros-on : to ≤ length b → i < to → Zeros b from to (i + 1) (bitOr some (getD b i 0))
+  unfolding allZero
+  zeros-on k h =
+      record {
+        left = omega arith;
+        rest =
+            v .rest
+            ∙ ap (λ (l : List ℕ). eqb some 0 && allZero l) (slice-cons i to b 0 h k)
+            ∙ sym (and-assoc (eqb some 0) (eqb (getD b i 0) 0) (allZero (slice (suc i) to b)))
+            ∙ rw (or-zero some (getD b i 0), add-one);
+      }
 
-    pub zeros-on : getD b i 0 ≡ 0 → Zeros b from to (i + 1)
-    unfolding allZero
-    zeros-on e =
-        record {
-          left = omega arith;
-          rest = v .rest ∙ ap allZero (slice-cons i to b 0 h k) ∙ rw (eq-eqb (getD b i 0) 0 e, add-one);
-        }
+-- ---- ascending numbers: number k - 1 and number k of those from byte 8
+pub number-before : (b : List ℕ) (n k x : ℕ) → 1 ≤ k → k ≤ n → x ≡ numberAt b (4 + 4 * k) → x ≡ getD (numbersOf n (drop 8 b)) (k - 1) 0
+number-before b n k x h g e =
+    let o : 4 + 4 * k ≡ 8 + 4 * (k - 1) = omega arith in
+    e ∙ ap (λ (j : ℕ). numberAt b j) o ∙ sym (number-drop 8 b (4 * (k - 1))) ∙ sym (numbers-at n (drop 8 b) (k - 1) (omega arith))
 
--- ---- ascending numbers: the answer for all is the answer from number k on
-pub record Rising (b : List ℕ) (n k least : ℕ) : Type 0 where
+pub number-here : (b : List ℕ) (n k y : ℕ) → k < n → y ≡ numberAt b (8 + 4 * k) → y ≡ getD (numbersOf n (drop 8 b)) k 0
+number-here b n k y h e = e ∙ sym (number-drop 8 b (4 * k)) ∙ sym (numbers-at n (drop 8 b) k h)
+
+-- the scan of a list's neighbours, over these numbers
+pub record Rising (b : List ℕ) (n k : ℕ) (good : Bool) : Type 0 where
+  pub some : 1 ≤ k
   pub left : k ≤ n
-  pub rest : ascends 0 (numbersOf n (drop 8 b)) ≡ ascends least (numbersOf (n - k) (drop (8 + 4 * k) b))
+  pub climbs : Climbs (numbersOf n (drop 8 b)) k good
 
-pub rising-start : (b : List ℕ) (n : ℕ) → Rising b n 0 0
-rising-start b n = record { left = omega arith; rest = rw sub-zero }
+pub rising-start : (b : List ℕ) (n : ℕ) → 1 ≤ n → Rising b n 1 true
+rising-start b n h = record { some = omega arith; left = h; climbs = climbs-start (numbersOf n (drop 8 b)) (rw numbers-length h) }
 
--- the numbers from number k on
-numbers-on : (b : List ℕ) (n k : ℕ) → k < n
-    → numbersOf (n - k) (drop (8 + 4 * k) b) ≡ numberAt b (8 + 4 * k) ∷ numbersOf (n - (k + 1)) (drop (8 + 4 * (k + 1)) b)
-unfolding numbersOf
-numbers-on b n k h =
-    let m : n - k ≡ suc (n - (k + 1)) = omega arith in
-    let o : 8 + 4 * k + 4 ≡ 8 + 4 * (k + 1) = omega arith in
-    ap (λ (j : ℕ). numbersOf j (drop (8 + 4 * k) b)) m
-    ∙ ap (λ (z : List ℕ). numberAt (drop (8 + 4 * k) b) 0 ∷ numbersOf (n - (k + 1)) z) (drop-drop 4 (8 + 4 * k) b ∙ ap (λ (j : ℕ). drop j b) o)
-    ∙ ap (λ (x : ℕ). x ∷ numbersOf (n - (k + 1)) (drop (8 + 4 * (k + 1)) b)) (number-drop (8 + 4 * k) b 0 ∙ ap (λ (o : ℕ). numberAt b o) (add-zero (8 + 4 * k)))
+module _ (b : List ℕ) (n k : ℕ) (good : Bool) (v : Rising b n k good) where
+  pub rising-on : k < n → (x y : ℕ) → x ≡ numberAt b (4 + 4 * k) → y ≡ numberAt b (8 + 4 * k) → Rising b n (k + 1) (good && ltb x y)
+  rising-on h x y p q =
+      record {
+        some = omega arith;
+        left = omega arith;
+        climbs =
+            climbs-on (numbersOf n (drop 8 b)) k good (v .climbs) (rw numbers-length h) x y (number-before b n k x (v .some) (v .left) p) (number-here b n k y h q);
+      }
 
-module _ (b : List ℕ) (n k least : ℕ) (v : Rising b n k least) where
-  pub rising-done : n ≤ k → true ≡ ascends 0 (numbersOf n (drop 8 b))
-  unfolding ascends numbersOf
-  rising-done h =
-      let e : n - k ≡ 0 = omega arith in
-      sym (v .rest ∙ ap (λ (m : ℕ). ascends least (numbersOf m (drop (8 + 4 * k) b))) e)
-
-  module _ (h : k < n) (x : ℕ) (e : x ≡ numberAt b (8 + 4 * k)) where
-    now : ascends 0 (numbersOf n (drop 8 b)) ≡ (leb least x && ltb x placesEnd && ascends (suc x) (numbersOf (n - (k + 1)) (drop (8 + 4 * (k + 1)) b)))
-    unfolding ascends
-    now =
-        v .rest ∙ ap (ascends least) (numbers-on b n k h)
-        ∙ ap (λ (y : ℕ). leb least y && ltb y placesEnd && ascends (suc y) (numbersOf (n - (k + 1)) (drop (8 + 4 * (k + 1)) b))) (sym e)
-
-    pub rising-low : x < least → false ≡ ascends 0 (numbersOf n (drop 8 b))
-    rising-low l = sym (now ∙ rw (lt-leb least x l))
-
-    module _ (g : least ≤ x) where
-      pub rising-high : placesEnd ≤ x → false ≡ ascends 0 (numbersOf n (drop 8 b))
-      rising-high l = sym (now ∙ rw (le-leb least x g, le-ltb x placesEnd l))
-
-      pub rising-on : x < placesEnd → Rising b n (k + 1) (x + 1)
-      rising-on l = record { left = omega arith; rest = now ∙ rw (le-leb least x g, lt-ltb x placesEnd l, add-one x) }
+  pub rising-done : n ≤ k → (z : ℕ) → z ≡ numberAt b (4 + 4 * n) → (good && ltb z placesEnd) ≡ ascends 0 (numbersOf n (drop 8 b))
+  rising-done h z e =
+      let w : length (numbersOf n (drop 8 b)) ≡ n = numbers-length n (drop 8 b) in
+      climbs-done (numbersOf n (drop 8 b)) k good (v .climbs) (rw w h) z (rw w (number-before b n n z (omega arith) (omega arith) e))
 
 -- ---- two parts side by side: the answer for all is the answer from i on
 pub record Alike (a b : List ℕ) (i : ℕ) : Type 0 where

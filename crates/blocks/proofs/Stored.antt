@@ -1,7 +1,7 @@
 -- A content's bytes stored in a block, and its numbers read from one. Assumes nothing.
 use mathlib.Core.Path.{_≡_, refl, sym, ap, ap₂, _∙_}
 use mathlib.Core.List.{List, [], _∷_, _++_, append-assoc, append-nil}
-use mathlib.Core.Option.{none, some}
+use mathlib.Core.Option.{some}
 use Prim.Native.Nat.{ℕ, zero, suc, _+_, _*_, _-_, _≤_, _<_}
 use native.Mathlib.Numerals.{add-one}
 use native.Mathlib.Omega.{arith}
@@ -143,7 +143,3 @@ content-made b₀ b₁ b₂ b₃ b₄ p places l h e₁ e₂ e₃ e₄ =
     (e₃
     ∙ ap (λ (b : List ℕ). sets (set b 4 (length places)) 8 (flat bytes32 places)) (e₂ ∙ ap (λ (b : List ℕ). sets b 0 (bytes32 p)) (e₁ ∙ ap (λ (n : ℕ). replicate n 0) l))
     ∙ content-stored p places h)
-
-pub none-made : (b₀ b₁ b₂ : List ℕ) → length b₀ ≡ blockLength → b₁ ≡ replicate (length b₀) 0 → b₂ ≡ sealed b₁ → b₂ ≡ holding none
-unfolding holding
-none-made b₀ b₁ b₂ l e₁ e₂ = e₂ ∙ ap sealed (e₁ ∙ ap (λ (n : ℕ). replicate n 0) l)

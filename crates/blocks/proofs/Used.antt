@@ -1,4 +1,4 @@
--- Whether a block is used or unused: one law for each test. Assumes nothing.
+-- Whether a block is used: one law for each test. Assumes nothing.
 use Prim.Native.Nat.{ℕ, _+_, _*_, _≤_, _<_}
 use mathlib.Core.Path.{_≡_, sym, ap, _∙_}
 use mathlib.Core.Bool.{Bool, true, false, not, and-false}
@@ -9,7 +9,7 @@ use borrow.Author.Tests.{le-leb, lt-leb, not-true, not-false}
 use Rattle.calendar.specs.Purge.{isPurge}
 use Rattle.codes.specs.Places.{ascends, capacity}
 use Rattle.blocks.specs.Block.{checked, numberAt, numbersOf, allZero}
-use Rattle.blocks.specs.Content.{isUsed, isUnused}
+use Rattle.blocks.specs.Content.{isUsed}
 
 -- what the answer t says of the test s
 passed : {t s : Bool} → t ≡ s → not t ≡ false → s ≡ true
@@ -57,12 +57,3 @@ module _ (issue : ℕ) (b : List ℕ) where
           let k : allZero (slice (8 + 4 * n) 510 b) ≡ true = passed ye yp in
           let m : ascends 0 (numbersOf n (drop 8 b)) ≡ true = passed ae ap′ in
           rw (f, ← count, le-leb 1 n some, le-leb n capacity few, g, k, m) (re ∙ ap (isPurge issue) pe)
-
-module _ (b : List ℕ) (c : Bool) (ce : c ≡ checked b) where
-  pub unused-unchecked : c ≡ false → false ≡ isUnused b
-  unfolding isUnused
-  unused-unchecked h = let f : checked b ≡ false = sym ce ∙ h in rw f
-
-  pub unused-zero : c ≡ true → (r : Bool) → r ≡ allZero (slice 0 510 b) → r ≡ isUnused b
-  unfolding isUnused
-  unused-zero h r re = let f : checked b ≡ true = sym ce ∙ h in rw f re

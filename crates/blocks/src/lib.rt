@@ -1,11 +1,11 @@
 // The 512-byte blocks of a book: document 01, "The book". These functions are for the book's own crates; a public call has tested what it hands to them.
 ghost use mathlib.Core.Path.{_≡_};
 ghost use mathlib.Core.Option.{none, some};
-ghost use Prim.Native.Nat.{_+_, _*_, _≤_, _<_};
+ghost use Prim.Native.Nat.{ℕ, _+_, _*_, _≤_, _<_};
 ghost use lib.ListN.{length, getD, take, drop, replicate};
 ghost use lib.Seq.{slice, sets};
 ghost use Rattle.codes.specs.Places.{capacity, ascends};
-ghost use Rattle.blocks.specs.Block.{checkOf, sealed, checked, bytes32, numberAt, numbersOf, flat, blockOf, putBlock, allZero, sameList, bookLength, blockCount, blockLength};
+ghost use Rattle.blocks.specs.Block.{sumTo, checkOf, sealed, checked, bytes32, numberAt, numbersOf, flat, blockOf, putBlock, allZero, sameList, bookLength, blockCount, blockLength};
 ghost use Rattle.blocks.specs.Content.{contentOf, holding, isUsed, isUnused};
 ghost use Rattle.blocks.specs.Held.{heldContent, Fits};
 
@@ -28,19 +28,35 @@ pub fn size(x: u8) -> usize
     x as usize
 }
 
-// The check of a block: 1 and the weighted sum of its first 510 bytes, modulo 65,521.
-fn check(b: &[u8]) -> u32
-    requires { ⌜ length (now b) ≡ blockLength ⌝ }
-    ensures { λ r. ⌜ r ≡ checkOf (now (b .entry)) ⌝ }
+// The weighted sum of the bytes from `from` up to `to`.
+fn weigh(b: &[u8], from: usize, to: usize) -> u32
+    requires { ⌜ (from ≤ to) × (to ≤ 510) × (length (now b) ≡ blockLength) ⌝ }
+    ensures { λ r. ⌜ (sumTo from (now (b .entry)) + r ≡ sumTo to (now (b .entry))) × (r ≤ 130050 * to) ⌝ }
 {
-    let mut sum: u32 = 1;
-    let mut i: usize = 0;
-    while i < 510 {
+    let mut sum: u32 = 0;
+    let mut i = from;
+    while i < to {
         let x = wide(b[i]);
         sum += (i as u32 + 1) * x;
         i += 1;
     }
-    sum % 65521
+    sum
+}
+
+// The check of a block: 1 and the weighted sum of its first 510 bytes, modulo 65,521. The sum is made of parts with constant bounds: each is a loop that is compiled to a few steps over many bytes.
+fn check(b: &[u8]) -> u32
+    requires { ⌜ length (now b) ≡ blockLength ⌝ }
+    ensures { λ r. ⌜ r ≡ checkOf (now (b .entry)) ⌝ }
+{
+    let s0 = weigh(b, 0, 64);
+    let s1 = weigh(b, 64, 128);
+    let s2 = weigh(b, 128, 192);
+    let s3 = weigh(b, 192, 256);
+    let s4 = weigh(b, 256, 320);
+    let s5 = weigh(b, 320, 384);
+    let s6 = weigh(b, 384, 448);
+    let s7 = weigh(b, 448, 510);
+    (1 + s0 + s1 + s2 + s3 + s4 + s5 + s6 + s7) % 65521
 }
 
 pub fn is_checked(b: &[u8]) -> bool
@@ -53,19 +69,18 @@ pub fn is_checked(b: &[u8]) -> bool
     c == low + 256 * high
 }
 
-// Whether the bytes from `from` up to `to` are zero.
+// Whether the bytes from `from` up to `to` are zero. All are looked at: without a way out in between many are at once.
 pub fn all_zero(b: &[u8], from: usize, to: usize) -> bool
     requires { ⌜ (from ≤ to) × (to ≤ length (now b)) ⌝ }
     ensures { λ r. ⌜ r ≡ allZero (slice from to (now (b .entry))) ⌝ }
 {
+    let mut some: u8 = 0;
     let mut i = from;
     while i < to {
-        if b[i] != 0 {
-            return false;
-        }
+        some = some | b[i];
         i += 1;
     }
-    true
+    some == 0
 }
 
 // The number in the four bytes at an offset.
@@ -80,25 +95,21 @@ pub fn number_at(b: &[u8], at: usize) -> u32
     x0 + 256 * x1 + 65536 * x2 + 16777216 * x3
 }
 
-// Whether the n numbers from byte 8 ascend strictly and are places.
+// Whether the n numbers from byte 8 ascend strictly and are places: each is less than the next, and the last is a place.
 fn ascending(b: &[u8], n: usize) -> bool
-    requires { ⌜ (length (now b) ≡ blockLength) × (n ≤ capacity) ⌝ }
+    requires { ⌜ (length (now b) ≡ blockLength) × (1 ≤ n) × (n ≤ capacity) ⌝ }
     ensures { λ r. ⌜ r ≡ ascends 0 (numbersOf n (drop 8 (now (b .entry)))) ⌝ }
 {
-    let mut k: usize = 0;
-    let mut least: u32 = 0;
+    let mut good = true;
+    let mut k: usize = 1;
     while k < n {
-        let x = number_at(b, 8 + 4 * k);
-        if x < least {
-            return false;
-        }
-        if x >= 1352000 {
-            return false;
-        }
-        least = x + 1;
+        let x = number_at(b, 4 + 4 * k);
+        let y = number_at(b, 8 + 4 * k);
+        good = good & (x < y);
         k += 1;
     }
-    true
+    let last = number_at(b, 4 + 4 * n);
+    good & (last < 1352000)
 }
 
 // Whether a block is a good used one, under the book's issue.
@@ -128,14 +139,13 @@ pub fn is_used(b: &[u8], issue: usize) -> bool
     calendar::is_purge(issue, number_at(b, 0) as usize)
 }
 
+// Whether a block is an unused one. The check of zeros is 1.
 pub fn is_unused(b: &[u8]) -> bool
     requires { ⌜ length (now b) ≡ blockLength ⌝ }
     ensures { λ r. ⌜ r ≡ isUnused (now (b .entry)) ⌝ }
 {
-    if is_checked(b) {
-        return all_zero(b, 0, 510);
-    }
-    false
+    let zero = all_zero(b, 0, 510);
+    zero & (b[510] == 1) & (b[511] == 0)
 }
 
 // Stores the check.
@@ -184,12 +194,26 @@ fn clear(b: &mut [u8])
     }
 }
 
+// Makes a block an unused one: zeros, and their check, which is 1.
 fn unuse(b: &mut [u8])
     requires { ⌜ length (now b) ≡ blockLength ⌝ }
     ensures { λ _. ⌜ now (b .exit) ≡ holding none ⌝ }
 {
     clear(b);
-    seal(b);
+    b[510] = 1;
+}
+
+// Makes every block of a book an unused one.
+pub fn clear_book(book: &mut [u8])
+    requires { ⌜ length (now book) ≡ bookLength ⌝ }
+    ensures { λ _. ⌜ (length (now (book .exit)) ≡ bookLength) × ((k : ℕ) → k < blockCount → blockOf k (now (book .exit)) ≡ holding none) ⌝ }
+{
+    clear(book);
+    let mut k: usize = 0;
+    while k < 49 {
+        book[k * 512 + 510] = 1;
+        k += 1;
+    }
 }
 
 // Makes block k of a book an unused one.

@@ -1,14 +1,14 @@
 use borrow.Author.Needs.{needs}
 use Prim.Native.Nat.{_-_}
-use Rattle.blocks.proofs.Scans.{Zeros, zeros-start, zeros-no, zeros-on, zeros-done}
+use Rattle.blocks.proofs.Scans.{Zeros, zeros-start, zeros-on, zeros-done}
 use Rattle.blocks.proofs.all_zero.Statement.{statement}
 use Rattle.blocks.proofs.all_zero.Tie as tie
 
 abbrev Inv-loop : tie.InvT-loop
-Inv-loop b from to i₀ i = Zeros b from to i
+Inv-loop b from to some₀ i₀ some i = Zeros b from to i some
 
 abbrev μ-loop : tie.MeasureT-loop
-μ-loop b from to i₀ i = to - i
+μ-loop b from to some₀ i₀ some i = to - i
 
 pub all-zero-spec : {M : Type 1} → statement M
 all-zero-spec =
@@ -18,7 +18,6 @@ all-zero-spec =
     μ-loop
     (λ c. search (zeros-start, needs))
     (λ c. search needs)
-    (λ c. search (zeros-no, needs))
     (λ c. search needs)
     (λ c. search needs)
     (λ c. search (zeros-on, needs))

@@ -1,11 +1,13 @@
-use Rattle.blocks.proofs.Used.{unused-zero, unused-unchecked}
 use borrow.Author.Needs.{needs}
+use Rattle.blocks.proofs.Unused.{unused-is}
 use Rattle.blocks.proofs.is_unused.Statement.{statement}
 use Rattle.blocks.proofs.is_unused.Tie as tie
 
 pub is-unused-spec : {M : Type 1} → statement M
-is-unused-spec = tie.close (tie.spec
+is-unused-spec =
+    tie.close
+    (tie.spec
     (λ c κs. search needs)
-    (λ c κs. search needs)
-    (λ c. search (unused-zero, needs))
-    (λ c. search (unused-unchecked, needs)))
+    (λ c. search needs)
+    (λ c. search needs)
+    (λ c. search (unused-is, needs)))

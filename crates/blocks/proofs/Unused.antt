@@ -1,0 +1,104 @@
+-- An unused block: zeros, whose check is 1. Its test, one that is made, and a book whose blocks all are. Assumes nothing.
+use mathlib.Core.Path.{_≡_, refl, sym, ap, _∙_}
+use mathlib.Core.Bool.{Bool, true, false, _&&_, and-true, and-false}
+use mathlib.Core.List.{List}
+use mathlib.Core.Option.{none}
+use Prim.Native.Nat.{ℕ, zero, suc, _+_, _*_, _/_, _%_, _≤_, _<_}
+use native.Mathlib.Nat.{ne-of-lt, ne-of-gt}
+use native.Mathlib.Omega.{arith}
+use lib.ListN.{length, getD, set, replicate, length-set, length-replicate, getD-replicate}
+use lib.Seq.{slice, set-getD, getD-set-other}
+use lib.Dec.{eqb}
+use borrow.Author.Tests.{eqb-true, eq-eqb}
+use Rattle.laws.proofs.Tests.{by-order, same-test, and-left, and-right}
+use Rattle.blocks.specs.Block.{blockLength, blockCount, bookLength, sumTo, checkOf, sealed, checked, allZero, blockOf}
+use Rattle.blocks.specs.Content.{holding, isUnused}
+use Rattle.blocks.proofs.Forms.{zero-in, zeros-ext}
+use Rattle.blocks.proofs.Blocks.{block-length, byte-of, set-block, put-same-block, put-other-block}
+
+-- ---- the check of zeros
+sum-zero : (n : ℕ) (b : List ℕ) → ((i : ℕ) → i < n → getD b i 0 ≡ 0) → sumTo n b ≡ 0
+unfolding sumTo
+sum-zero zero b z = refl
+sum-zero (suc n) b z =
+    let e : getD b n 0 ≡ 0 = z n (omega arith) in
+    let s : sumTo n b ≡ 0 = sum-zero n b (λ i h. z i (omega arith)) in
+    rw (e, s) (omega arith)
+
+check-zero : (b : List ℕ) → ((i : ℕ) → i < 510 → getD b i 0 ≡ 0) → checkOf b ≡ 1
+unfolding checkOf
+check-zero b z = ap (λ (s : ℕ). (1 + s) % 65521) (sum-zero 510 b z)
+
+-- ---- the test
+-- the number 1 in two bytes
+one-in : (low high : ℕ) → eqb 1 (low + 256 * high) ≡ (eqb low 1 && eqb high 0)
+one-in low high =
+    same-test (eqb 1 (low + 256 * high)) (eqb low 1 && eqb high 0)
+    (λ h. let e : 1 ≡ low + 256 * high = eqb-true 1 (low + 256 * high) h in
+    rw (eq-eqb low 1 (omega arith), eq-eqb high 0 (omega arith)))
+    (λ h. let p : low ≡ 1 = eqb-true low 1 (and-left (eqb low 1) (eqb high 0) h) in
+    let q : high ≡ 0 = eqb-true high 0 (and-right (eqb low 1) (eqb high 0) h) in
+    eq-eqb 1 (low + 256 * high) (omega arith))
+
+pub unused-is : (b : List ℕ) (z : Bool) → z ≡ allZero (slice 0 510 b) → (z && eqb (getD b 510 0) 1 && eqb (getD b 511 0) 0) ≡ isUnused b
+unfolding isUnused checked
+unused-is b true e =
+    let c : checkOf b ≡ 1 = check-zero b (λ i h. zero-in 0 510 b (sym e) i (omega arith) h) in
+    sym (rw (c, ← e) (and-true (eqb 1 (getD b 510 0 + 256 * getD b 511 0)) ∙ one-in (getD b 510 0) (getD b 511 0)))
+unused-is b false e = sym (rw (← e) (and-false (checked b)))
+
+-- ---- one that is made
+sealed-zero : (b : List ℕ) → ((i : ℕ) → i < 512 → getD b i 0 ≡ 0) → sealed b ≡ set b 510 1
+unfolding sealed
+sealed-zero b z =
+    let c : checkOf b ≡ 1 = check-zero b (λ i h. z i (omega arith)) in
+    let l : List ℕ = set b 510 1 in
+    let e : getD l 511 0 ≡ 0 = getD-set-other b 510 511 1 0 (ne-of-gt (omega arith)) ∙ z 511 (omega arith) in
+    ap (λ (k : ℕ). set (set b 510 (k % 256)) 511 (k / 256 % 256)) c ∙ ap (set l 511) (sym e) ∙ set-getD l 511 0
+
+none-is : set (replicate blockLength 0) 510 1 ≡ holding none
+unfolding holding
+none-is = sym (sealed-zero (replicate blockLength 0) (λ i h. getD-replicate blockLength i 0 0 h))
+
+pub none-made : (b₀ b₁ : List ℕ) → length b₀ ≡ blockLength → b₁ ≡ replicate (length b₀) 0 → set b₁ 510 1 ≡ holding none
+none-made b₀ b₁ l e = ap (λ (b : List ℕ). set b 510 1) (e ∙ ap (λ (n : ℕ). replicate n 0) l) ∙ none-is
+
+-- ---- a book whose first k blocks are unused ones, and the others zeros
+pub record Emptied (book : List ℕ) (k : ℕ) : Type 0 where
+  pub left : k ≤ blockCount
+  pub long : length book ≡ bookLength
+  pub unused : (j : ℕ) → j < k → blockOf j book ≡ holding none
+  pub zeros : (j : ℕ) → k ≤ j → j < blockCount → blockOf j book ≡ replicate blockLength 0
+
+pub emptied-start : (book₀ book : List ℕ) → length book₀ ≡ bookLength → book ≡ replicate (length book₀) 0 → Emptied book 0
+emptied-start book₀ book l e =
+    let z : book ≡ replicate bookLength 0 = e ∙ ap (λ (n : ℕ). replicate n 0) l in
+    let long : length book ≡ bookLength = ap (λ (d : List ℕ). length d) z ∙ length-replicate {A = ℕ} bookLength 0 in
+    record {
+      left = omega arith;
+      long = long;
+      unused = λ j h. absurd (omega arith);
+      zeros = λ j h g. zeros-ext blockLength (blockOf j book) (block-length j book (omega arith))
+          (λ i m. byte-of j i book m ∙ ap (λ (d : List ℕ). getD d (j * 512 + i) 0) z ∙ getD-replicate bookLength (j * 512 + i) 0 0 (omega arith));
+    }
+
+module _ (book : List ℕ) (k : ℕ) (v : Emptied book k) where
+  pub emptied-on : k < blockCount → Emptied (set book (k * 512 + 510) 1) (k + 1)
+  emptied-on h =
+      let long : length book ≡ bookLength = v .long in
+      let b : List ℕ = set (blockOf k book) 510 1 in
+      let e = set-block k 510 1 book (omega arith) (omega arith) in
+      let w : length b ≡ 512 = length-set (blockOf k book) 510 1 ∙ block-length k book (omega arith) in
+      let made : b ≡ holding none = ap (λ (l : List ℕ). set l 510 1) (v .zeros k (omega arith) h) ∙ none-is in
+      record {
+        left = omega arith;
+        long = length-set book (k * 512 + 510) 1 ∙ long;
+        unused = λ j g. by-order j k
+            (λ r. ap (blockOf j) e ∙ put-other-block 49 k book b h long w j (omega arith) (ne-of-lt r) ∙ v .unused j r)
+            (λ r. let m : j ≡ k = omega arith in
+            ap (λ (i : ℕ). blockOf i (set book (k * 512 + 510) 1)) m ∙ ap (blockOf k) e ∙ put-same-block 49 k book b h long w ∙ made);
+        zeros = λ j g m. ap (blockOf j) e ∙ put-other-block 49 k book b h long w j m (ne-of-gt (omega arith)) ∙ v .zeros j (omega arith) m;
+      }
+
+  pub emptied-done : blockCount ≤ k → (length book ≡ bookLength) × ((j : ℕ) → j < blockCount → blockOf j book ≡ holding none)
+  emptied-done h = (v .long, λ j g. v .unused j (omega arith))
