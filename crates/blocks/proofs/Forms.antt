@@ -1,7 +1,7 @@
 -- Zeros, and the form of a good block: a right check, and zeros from an offset on. Assumes nothing.
 use mathlib.Core.Path.{_≡_, refl, sym, ap, ap₂, _∙_}
 use mathlib.Core.Logic.{_≢_}
-use mathlib.Core.Bool.{true}
+use mathlib.Core.Bool.{true, _&&_}
 use mathlib.Core.List.{List, [], _∷_, _++_}
 use Prim.Native.Nat.{ℕ, zero, suc, _+_, _*_, _-_, _/_, _%_, _≤_, _<_}
 use native.Mathlib.Nat.{ne-of-lt, mod-eq-of-lt, mod-lt, mod-add-div, div-lt-iff-lt-mul}
@@ -10,7 +10,7 @@ use lib.ListN.{length, take, drop, getD, set, replicate, length-replicate, getD-
 use lib.Seq.{slice, length-slice, getD-take, getD-drop, set-getD, ext-getD, take-set-le, getD-set-same, getD-set-other}
 use lib.Dec.{eqb}
 use borrow.Author.Tests.{eqb-true, eq-eqb}
-use Rattle.laws.proofs.Tests.{by-order, and-left, and-right}
+use Rattle.laws.proofs.Tests.{by-order, same-test, and-left, and-right}
 use Rattle.blocks.specs.Block.{blockLength, checkOf, sealed, checked, allZero}
 use Rattle.blocks.proofs.Seals.{check-set, sealed-again}
 use Rattle.blocks.proofs.Numbers.{Bytes, byte-at, low-byte, high-part}
@@ -40,6 +40,17 @@ slice-zero f t l k z =
     (λ i h. let n = length-slice f t l k in
     let g : f + i < t = omega arith in
     getD-drop f (take t l) i 0 ∙ getD-take t l (f + i) 0 g ∙ z (f + i) (omega arith) g)
+
+-- a part is zeros if both its parts are
+pub zero-split : (f m t : ℕ) (l : List ℕ) → f ≤ m → m ≤ t → t ≤ length l → (allZero (slice f m l) && allZero (slice m t l)) ≡ allZero (slice f t l)
+zero-split f m t l h k n =
+    let front = allZero (slice f m l) in
+    let back = allZero (slice m t l) in
+    same-test (front && back) (allZero (slice f t l))
+    (λ e. slice-zero f t l n
+    (λ i p q. by-order i m (λ r. zero-in f m l (and-left front back e) i p r) (λ r. zero-in m t l (and-right front back e) i r q)))
+    (λ e. let z : (i : ℕ) → f ≤ i → i < t → getD l i 0 ≡ 0 = zero-in f t l e in
+    rw (slice-zero f m l (omega arith) (λ i p q. z i p (omega arith)), slice-zero m t l n (λ i p q. z i (omega arith) q)))
 
 -- a list of zeros is that many zeros
 pub zeros-ext : (m : ℕ) (l : List ℕ) → length l ≡ m → ((i : ℕ) → i < m → getD l i 0 ≡ 0) → l ≡ replicate m 0

@@ -4,6 +4,7 @@ ghost use mathlib.Core.Option.{none, some};
 ghost use Prim.Native.Nat.{ℕ, _+_, _*_, _≤_, _<_};
 ghost use lib.ListN.{length, getD, take, drop, replicate};
 ghost use lib.Seq.{slice, sets};
+ghost use Rattle.calendar.specs.Window.{WindowOf};
 ghost use Rattle.codes.specs.Places.{capacity, ascends};
 ghost use Rattle.blocks.specs.Block.{sumTo, checkOf, sealed, checked, bytes32, numberAt, numbersOf, flat, blockOf, putBlock, allZero, sameList, bookLength, blockCount, blockLength};
 ghost use Rattle.blocks.specs.Content.{contentOf, holding, isUsed, isUnused};
@@ -28,7 +29,7 @@ pub fn size(x: u8) -> usize
     x as usize
 }
 
-// The weighted sum of the bytes from `from` up to `to`.
+// The weighted sum of the bytes from `from` up to `to`. No term is above 510 * 255.
 fn weigh(b: &[u8], from: usize, to: usize) -> u32
     requires { ⌜ (from ≤ to) × (to ≤ 510) × (length (now b) ≡ blockLength) ⌝ }
     ensures { λ r. ⌜ (sumTo from (now (b .entry)) + r ≡ sumTo to (now (b .entry))) × (r ≤ 130050 * to) ⌝ }
@@ -43,7 +44,7 @@ fn weigh(b: &[u8], from: usize, to: usize) -> u32
     sum
 }
 
-// The check of a block: 1 and the weighted sum of its first 510 bytes, modulo 65,521. The sum is made of parts with constant bounds: each is a loop that is compiled to a few steps over many bytes.
+// The check of a block: 1 and the weighted sum of its first 510 bytes, modulo 65,521. The sum is made of parts whose bounds are constants, so that each loop takes many bytes at a time.
 fn check(b: &[u8]) -> u32
     requires { ⌜ length (now b) ≡ blockLength ⌝ }
     ensures { λ r. ⌜ r ≡ checkOf (now (b .entry)) ⌝ }
@@ -69,7 +70,7 @@ pub fn is_checked(b: &[u8]) -> bool
     c == low + 256 * high
 }
 
-// Whether the bytes from `from` up to `to` are zero. All are looked at: without a way out in between many are at once.
+// Whether the bytes from `from` up to `to` are zero. Every byte is looked at, since a loop with no way out takes many bytes at a time.
 pub fn all_zero(b: &[u8], from: usize, to: usize) -> bool
     requires { ⌜ (from ≤ to) × (to ≤ length (now b)) ⌝ }
     ensures { λ r. ⌜ r ≡ allZero (slice from to (now (b .entry))) ⌝ }
@@ -112,14 +113,11 @@ fn ascending(b: &[u8], n: usize) -> bool
     good & (last < 1352000)
 }
 
-// Whether a block is a good used one, under the book's issue.
-pub fn is_used(b: &[u8], issue: usize) -> bool
+// Whether a block is a good used one, under the issue whose purge minutes the window tells. Where the count is in its range every test is made, since the usual block passes them all.
+pub fn is_used(b: &[u8], w: calendar::Window) -> bool
     requires { ⌜ length (now b) ≡ blockLength ⌝ }
-    ensures { λ r. ⌜ r ≡ isUsed issue (now (b .entry)) ⌝ }
+    ensures { λ r. ⌜ ((issue : ℕ) → WindowOf issue w → r ≡ isUsed issue (now (b .entry))) ⌝ }
 {
-    if !is_checked(b) {
-        return false;
-    }
     let n = size(b[4]);
     if n < 1 {
         return false;
@@ -127,19 +125,17 @@ pub fn is_used(b: &[u8], issue: usize) -> bool
     if 120 < n {
         return false;
     }
-    if !all_zero(b, 5, 8) {
-        return false;
-    }
-    if !all_zero(b, 8 + 4 * n, 510) {
-        return false;
-    }
-    if !ascending(b, n) {
-        return false;
-    }
-    calendar::is_purge(issue, number_at(b, 0) as usize)
+    let checks = is_checked(b);
+    let gap = all_zero(b, 5, 8);
+    // The last of 120 places ends before byte 488.
+    let tail = all_zero(b, 488, 510);
+    let rest = all_zero(b, 8 + 4 * n, 488);
+    let places = ascending(b, n);
+    let purge = calendar::is_within(w, number_at(b, 0) as usize);
+    checks & gap & tail & rest & places & purge
 }
 
-// Whether a block is an unused one. The check of zeros is 1.
+// Whether a block is an unused one: zeros and their check, which is 1.
 pub fn is_unused(b: &[u8]) -> bool
     requires { ⌜ length (now b) ≡ blockLength ⌝ }
     ensures { λ r. ⌜ r ≡ isUnused (now (b .entry)) ⌝ }

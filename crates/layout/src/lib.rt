@@ -3,8 +3,9 @@ use refusal::Refusal;
 ghost use mathlib.Core.Path.{_≡_};
 ghost use Prim.Native.Nat.{_≤_, _<_};
 ghost use lib.ListN.{length, getD};
+ghost use Rattle.calendar.specs.Window.{WindowOf};
 ghost use Rattle.codes.specs.Places.{upward};
-ghost use Rattle.blocks.specs.Block.{blockLength, blockCount, bookLength};
+ghost use Rattle.blocks.specs.Block.{blockLength, blockCount, bookLength, numberAt};
 ghost use Rattle.steps.specs.Calls.{stepsMost};
 ghost use Rattle.layout.specs.Sound.{isDraft, isStep, every, isDraftAt, isStepAt, isIndex, used, isGood, isSound};
 
@@ -145,27 +146,30 @@ fn is_used_block(book: &[u8], k: usize) -> bool
     0 < before
 }
 
-fn is_good(book: &[u8], k: usize) -> bool
-    requires { ⌜ (length (now book) ≡ bookLength) × (k < blockCount) ⌝ }
+// Whether block k is good, where the window tells the purge minutes under the book's issue.
+fn is_good(book: &[u8], k: usize, w: calendar::Window) -> bool
+    requires { ⌜ (length (now book) ≡ bookLength) × (k < blockCount) × WindowOf (numberAt (now book) 0) w ⌝ }
     ensures { λ r. ⌜ r ≡ isGood (now (book .entry)) k ⌝ }
 {
     let a = k * 512;
     let e = k * 512 + 512;
     let in_use = is_used_block(book, k);
     if in_use {
-        let issue = blocks::number_at(book, 0);
-        return blocks::is_used(&book[a..e], issue as usize);
+        return blocks::is_used(&book[a..e], w);
     }
     blocks::is_unused(&book[a..e])
 }
 
+// Whether the blocks from 1 on are good. The window is worked out once for all of them.
 fn are_good(book: &[u8]) -> bool
     requires { ⌜ length (now book) ≡ bookLength ⌝ }
     ensures { λ r. ⌜ r ≡ every (isGood (now (book .entry))) (upward 1 48) ⌝ }
 {
+    let issue = blocks::number_at(book, 0);
+    let w = calendar::window_of(issue as usize);
     let mut k: usize = 1;
     while k < 49 {
-        let good = is_good(book, k);
+        let good = is_good(book, k, w);
         if !good {
             return false;
         }

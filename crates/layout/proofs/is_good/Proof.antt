@@ -1,5 +1,7 @@
 use mathlib.Core.Path.{sym, _∙_}
-use Rattle.blocks.proofs.Blocks.{part-is}
+use Rattle.blocks.specs.Block.{numberAt}
+use Rattle.blocks.specs.Content.{isUsed, isUnused}
+use Rattle.blocks.proofs.Blocks.{part-read}
 use Rattle.layout.proofs.Tests.{good-used, good-unused}
 use borrow.Author.Needs.{needs}
 use Rattle.layout.proofs.is_good.Statement.{statement}
@@ -7,17 +9,19 @@ use Rattle.layout.proofs.is_good.Tie as tie
 
 returns : tie.Need-returns
 returns c =
-    let s = c .before .before .before .before .before .before in
-    good-used (s .args .book .now) (s .args .k)
-    (sym (c .before .before .before .before .is-used-block .ensures) ∙ c .before .before .before .if1 .taken)
-    (rw (part-is (s .args .k) (s .args .book .now), c .before .before .number-at .ensures) at (c .is-used .ensures))
+    let s = c .before .before .before .before .before in
+    let l = s .args .book .now in
+    good-used l (s .args .k)
+    (sym (c .before .before .before .is-used-block .ensures) ∙ c .before .before .if1 .taken)
+    (part-read (isUsed (numberAt l 0)) (s .args .k) l _ (c .is-used .ensures (numberAt l 0) (s .pre .2)))
 
 returns-2 : tie.Need-returns-2
 returns-2 c =
     let s = c .before .before .before .before .before in
-    good-unused (s .args .book .now) (s .args .k)
+    let l = s .args .book .now in
+    good-unused l (s .args .k)
     (sym (c .before .before .before .is-used-block .ensures) ∙ c .before .before .if1 .left)
-    (rw (part-is (s .args .k) (s .args .book .now)) at (c .is-unused .ensures))
+    (part-read isUnused (s .args .k) l _ (c .is-unused .ensures))
 
 pub is-good-spec : {M : Type 1} → statement M
 is-good-spec =
@@ -27,8 +31,6 @@ is-good-spec =
     (λ c. search needs)
     (λ c. search needs)
     (λ c κs. search needs)
-    (λ c κs. search needs)
-    (λ c. search needs)
     (λ c. search needs)
     (λ c. search needs)
     (λ c. search needs)
