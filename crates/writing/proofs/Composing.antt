@@ -6,18 +6,19 @@ use mathlib.Core.Path.{_≡_, sym, ap, _∙_}
 use mathlib.Core.List.{List, [], _∷_, _++_, append-assoc}
 use mathlib.Core.Option.{none}
 use lib.ListN.{length, getD, drop, length-append, drop-of-length-le}
-use lib.Seq.{sets, length-sets, drop-cons}
+use lib.Seq.{length-sets, drop-cons}
 use Rattle.codes.proofs.Sets.{Set, ascending-below}
-use Rattle.laws.proofs.Stores.{sets-then, sets-front}
+use Rattle.laws.proofs.Stores.{sets-front}
 use Rattle.calendar.specs.declared.Stamp.{Stamp}
 use Rattle.codes.specs.Written.{runsOf, spansOf, elementsOf, purgeElement, blockElements, written}
 use Rattle.codes.specs.Places.{upward}
 use Rattle.writing.specs.Ink.{open-one, inkFrom}
 use Rattle.writing.proofs.Ink.{ink-start}
-use Rattle.writing.specs.Pen.{Inked, ahead, Fine, Turned, closing, closeMost, Closed, blockMost, Composed}
+use Rattle.writing.specs.Pen.{Stored, Inked, ahead, Fine, Turned, closing, closeMost, Closed, blockMost, Composed}
 use Rattle.codes.specs.declared.Last.the-variants as last
 use Rattle.writing.specs.declared.Pen.{Pen}
 use Rattle.writing.specs.declared.State.{State}
+use Rattle.writing.proofs.Spelling.{stored-on}
 use Rattle.writing.proofs.Inking.{inked-none, inked-on}
 
 abbrev pub origin : Pen
@@ -62,7 +63,7 @@ module _ (a : List ℕ) (ps : List ℕ) (set : Set ps) where
         }
 
     pub begun-length : length b ≡ length a
-    begun-length = ap length (v .inked .bytes) ∙ length-sets a 0 (v .inked .ink)
+    begun-length = ap length (v .inked .stored .bytes) ∙ length-sets a 0 (v .inked .ink)
 
     -- There is room for a run, the purge and a line's end.
     pub begun-room : blockMost ≤ length a → s .pen .pos + closeMost ≤ length b
@@ -79,9 +80,7 @@ module _ (a : List ℕ) (ps : List ℕ) (set : Set ps) where
 
       pub begun-end : blockMost ≤ length a → (c : List ℕ) (r : ℕ) → Closed b c s stamp r → Composed a c (written ps stamp) r
       begun-end g c r t =
-          let ink : List ℕ = v .inked .ink in
-          let end : List ℕ = closing s stamp in
-          let long : r ≡ length (ink ++ end) = omega (arith, t .end, v .inked .pos, length-append ink end) in
+          let all : Stored a c 0 r (v .inked .ink ++ closing s stamp) = stored-on (v .inked .stored) (t .stored) in
+          let text : Stored a c 0 r (written ps stamp) = rw begun-text all in
           let most : r ≤ blockMost = omega (arith, t .far, v .inked .far, v .few, v .within, set .few) in
-          let same : c ≡ sets a 0 (ink ++ end) = sets-then a 0 ink end (v .inked .bytes) (v .inked .pos) (t .bytes) in
-          record { long = rw begun-text long; most = most; bytes = rw begun-text (same ∙ sets-front a (ink ++ end) (omega arith)) }
+          record { long = omega (arith, text .end); most = most; bytes = text .bytes ∙ sets-front a (written ps stamp) (omega (arith, text .end)) }

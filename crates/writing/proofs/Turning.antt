@@ -5,9 +5,6 @@ use native.Mathlib.Numerals.{add-one}
 use mathlib.Core.Path.{_≡_, sym, ap, _∙_}
 use mathlib.Core.Bool.{Bool, true, false}
 use mathlib.Core.List.{List, [], _∷_, _++_, append-nil}
-use lib.ListN.{length-append}
-use lib.Seq.{sets}
-use Rattle.laws.proofs.Stores.{sets-then}
 use Rattle.lines.specs.Bytes.{bytes}
 use Rattle.calendar.specs.declared.Stamp.{Stamp}
 use Rattle.codes.specs.Places.{placesEnd}
@@ -15,12 +12,12 @@ use Rattle.codes.specs.Written.{joins, parted, runsOf, spansOf, elementsOf, pur
 use Rattle.codes.specs.Places.{upward}
 use Rattle.writing.specs.Ink.{open-one, inkFrom}
 use Rattle.writing.proofs.Ink.{at-end, at-gap, joins-next, open-next, upward-next, elements-close, parted-few, ink-end}
-use Rattle.writing.specs.Pen.{textOf, Spelled, inkMost, Inked, ahead, Fine, Turned, closing, Closed}
+use Rattle.writing.specs.Pen.{Stored, inkMost, Inked, ahead, Fine, Turned, closing, Closed}
 use Rattle.codes.specs.Cursor.{lastOf}
-use Rattle.writing.specs.declared.Element.{Element}
 use Rattle.codes.specs.declared.Last.the-variants as last
 use Rattle.writing.specs.declared.Pen.{Pen}
 use Rattle.writing.specs.declared.State.{State}
+use Rattle.writing.proofs.Spelling.{stored-on}
 use Rattle.writing.proofs.Inking.{inked-none, inked-on}
 
 -- the elements of the open run
@@ -63,12 +60,8 @@ module _ (a c : List ℕ) (s : State) (r : Pen) (stamp : Stamp) (fine : Fine s) 
       ap (λ (es : List (List ℕ)). inkFrom (s .pen .col) (es ++ (purgeElement stamp ∷ []))) run ∙ rw (append-nil, ink-end) at (w .goes [])
 
   pub closed : (b : List ℕ) (p : Pen) → Inked a b (s .pen) p (ofRun s) → p .pos ≤ s .pen .pos + 2 * inkMost
-      → (e : Element) → Spelled e (purgeElement stamp) → Inked b c p r (textOf e ∷ [])
-      → (d : List ℕ) (k : ℕ) → k ≡ r .pos + 3 → d ≡ sets c (r .pos) (bytes "\r\r\n") → Closed a d s stamp k
-  closed b p f m e es g d k ek ed =
-      let w : Inked a c (s .pen) r (ofRun s ++ (purgeElement stamp ∷ [])) = rw (es .text) at (inked-on f g) in
-      record {
-        end = rw (closing-is w) (omega (arith, w .pos, length-append (w .ink) (bytes "\r\r\n")));
-        bytes = rw (closing-is w) (sets-then a (s .pen .pos) (w .ink) (bytes "\r\r\n") (w .bytes) (w .pos) ed);
-        far = omega (arith, g .far);
-      }
+      → Inked b c p r (purgeElement stamp ∷ [])
+      → (d : List ℕ) (k : ℕ) → Stored c d (r .pos) k (bytes "\r\r\n") → Closed a d s stamp k
+  closed b p f m g d k e =
+      let w : Inked a c (s .pen) r (ofRun s ++ (purgeElement stamp ∷ [])) = inked-on f g in
+      record { stored = rw (closing-is w) (stored-on (w .stored) e); far = omega (arith, g .far, e .end) }

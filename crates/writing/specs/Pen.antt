@@ -1,42 +1,41 @@
--- What the writer's steps leave: an element's bytes, the elements of a run, the whole block.
+-- What the writer's steps leave: bytes set one after the other, the elements of a run, the whole block.
 use Prim.Native.Nat.{ℕ, suc, _+_, _*_, _≤_, _<_}
 use mathlib.Core.Path.{_≡_}
 use mathlib.Core.List.{List, [], _∷_, _++_}
-use lib.ListN.{length, take, drop}
+use lib.ListN.{length, drop}
 use lib.Seq.{sets}
 use Rattle.calendar.specs.declared.Stamp.{Stamp}
 use Rattle.codes.specs.Places.{placesEnd}
 use Rattle.codes.specs.Written.{Run, runsOf, spansOf, elementsOf, purgeElement, writtenMost}
 use Rattle.codes.specs.Places.{upward}
 use Rattle.writing.specs.Ink.{Open, inkFrom}
-use Rattle.writing.specs.declared.Element.{Element}
 use Rattle.codes.specs.Cursor.{lastOf}
 use Rattle.writing.specs.declared.Pen.{Pen}
 use Rattle.writing.specs.declared.State.{State}
 
 -- ---- an element
+-- the bytes xs went to a, from place i on, and made it b; j is the place behind them
+pub record Stored (a b : List ℕ) (i j : ℕ) (xs : List ℕ) : Type 0 where
+  pub end : j ≡ i + length xs
+  pub bytes : b ≡ sets a i xs
+
 -- as long as `SSFnnn>mmm-`
 abbrev pub elementMost : ℕ
 elementMost = 11
-
-abbrev pub textOf : Element → List ℕ
-textOf e = take (e .len) (e .bytes)
-
--- t was added to e's bytes
-pub record Grown (e r : Element) (t : List ℕ) : Type 0 where
-  pub len : r .len ≡ e .len + length t
-  pub text : textOf r ≡ textOf e ++ t
-
--- e holds t
-pub record Spelled (e : Element) (t : List ℕ) : Type 0 where
-  pub most : e .len ≤ elementMost
-  pub text : textOf e ≡ t
 
 -- lo and so many more
 abbrev pub run : ℕ → ℕ → Run
 run lo more = record { first = lo; more = more }
 
 -- ---- elements set in lines
+-- The pen went from p to q, to a new line or not at all, and there an element of n bytes goes: whatever elements follow it, the text goes on behind it.
+pub record Room (a b : List ℕ) (p q : Pen) (n : ℕ) : Type 0 where
+  pub ink : List ℕ
+  pub stored : Stored a b (p .pos) (q .pos) ink
+  pub goes : (e : List ℕ) → n ≡ length e → (fs : List (List ℕ)) → inkFrom (p .col) (e ∷ fs) ≡ ink ++ (e ++ inkFrom (q .col + n) fs)
+  pub far : q .pos ≤ p .pos + 3
+  pub low : q .col + n ≤ writtenMost
+
 -- an element, and the end of a line before it
 abbrev pub inkMost : ℕ
 inkMost = elementMost + 3
@@ -44,8 +43,7 @@ inkMost = elementMost + 3
 -- The elements es went to the bytes a and made them b; the pen went from p to r. Whatever elements follow, the text goes on behind the ink.
 pub record Inked (a b : List ℕ) (p r : Pen) (es : List (List ℕ)) : Type 0 where
   pub ink : List ℕ
-  pub bytes : b ≡ sets a (p .pos) ink
-  pub pos : r .pos ≡ p .pos + length ink
+  pub stored : Stored a b (p .pos) (r .pos) ink
   pub goes : (fs : List (List ℕ)) → inkFrom (p .col) (es ++ fs) ≡ ink ++ inkFrom (r .col) fs
   pub far : r .pos ≤ p .pos + inkMost * length es
   pub low : r .col ≤ writtenMost
@@ -76,8 +74,7 @@ abbrev pub closeMost : ℕ
 closeMost = 3 * inkMost + 3
 
 pub record Closed (a b : List ℕ) (s : State) (stamp : Stamp) (r : ℕ) : Type 0 where
-  pub end : r ≡ s .pen .pos + length (closing s stamp)
-  pub bytes : b ≡ sets a (s .pen .pos) (closing s stamp)
+  pub stored : Stored a b (s .pen .pos) r (closing s stamp)
   pub far : r ≤ s .pen .pos + closeMost
 
 -- ---- the block

@@ -3,7 +3,7 @@ ghost use mathlib.Core.Path.{_≡_};
 ghost use mathlib.Core.Bool.{true, cond};
 ghost use mathlib.Core.List.{[], _∷_};
 ghost use Prim.Native.Nat.{_+_, _*_, _%_, _≤_, _<_};
-ghost use lib.ListN.{length, take};
+ghost use lib.ListN.{length, getD, take};
 ghost use lib.Seq.{sets};
 ghost use Rattle.lines.specs.Bytes.{bytes};
 ghost use Rattle.calendar.specs.Calendar.{isTime};
@@ -11,7 +11,7 @@ ghost use Rattle.codes.specs.Places.{prefixes, placesEnd, twoBytes, threeBytes,
 ghost use Rattle.codes.specs.Written.{joins, parted, heading, upTo, elementOf, elementsOf, purgeElement, writtenMost, written};
 ghost use Rattle.writing.specs.Ink.{Open};
 ghost use Rattle.writing.specs.Write.{Writes};
-ghost use Rattle.writing.specs.Pen.{elementMost, textOf, Grown, Spelled, run, inkMost, Inked, Fine, Turned, closeMost, Closed, blockMost, Composed};
+ghost use Rattle.writing.specs.Pen.{Stored, elementMost, run, Room, inkMost, Inked, Fine, Turned, closeMost, Closed, blockMost, Composed};
 ghost use Rattle.codes.specs.Cursor.{lastOf};
 use calendar::Dated;
 use calendar::Stamp;
@@ -27,14 +27,8 @@ const CAPACITY: usize = 120;
 // A line has at most so many bytes.
 const WRITTEN_MOST: usize = 66;
 
-// No element has more bytes than `SSFnnn>mmm-`.
-const ELEMENT_MOST: usize = 11;
-
-// An element's bytes by value, so that its length is known before it is set in a line.
-struct Element {
-    bytes: [u8; ELEMENT_MOST],
-    len: usize,
-}
+// A purge has so many bytes, `DDHHMM-`.
+const PURGE_LENGTH: usize = 7;
 
 // The length of the block that was written.
 pub enum Written {
@@ -67,96 +61,13 @@ fn is_set(places: &[u32]) -> bool
     if CAPACITY < n {
         return false;
     }
-    let mut least = 0;
-    let mut i = 0;
+    let mut good = true;
+    let mut i = 1;
     while i < n {
-        let p = places[i];
-        if p < least {
-            return false;
-        }
-        if PLACES_END <= p {
-            return false;
-        }
-        least = p + 1;
+        good = good & (places[i - 1] < places[i]);
         i += 1;
     }
-    true
-}
-
-impl Element {
-    fn empty() -> Element
-        ensures { λ r. ⌜ (r .len ≡ 0) × (textOf r ≡ []) ⌝ }
-    {
-        Element {
-            bytes: [0; ELEMENT_MOST],
-            len: 0,
-        }
-    }
-
-    fn push(mut self, b: u8) -> Element
-        requires { ⌜ self .len < elementMost ⌝ }
-        ensures { λ r. ⌜ Grown self r (b ∷ []) ⌝ }
-    {
-        let at = self.len;
-        self.bytes[at] = b;
-        self.len = at + 1;
-        self
-    }
-
-    fn two(self, n: usize) -> Element
-        requires { ⌜ (self .len + 2 ≤ elementMost) × (n ≤ 99) ⌝ }
-        ensures { λ r. ⌜ Grown self r (twoBytes n) ⌝ }
-    {
-        let a = self.push(b'0' + (n / 10) as u8);
-        a.push(b'0' + (n % 10) as u8)
-    }
-
-    fn three(self, n: u32) -> Element
-        requires { ⌜ (self .len + 3 ≤ elementMost) × (n ≤ 999) ⌝ }
-        ensures { λ r. ⌜ Grown self r (threeBytes n) ⌝ }
-    {
-        let a = self.push(b'0' + (n / 100) as u8);
-        let b = a.push(b'0' + (n / 10 % 10) as u8);
-        b.push(b'0' + (n % 10) as u8)
-    }
-
-    fn prefix(self, p: u32) -> Element
-        requires { ⌜ (self .len + 3 ≤ elementMost) × (p < prefixes) ⌝ }
-        ensures { λ r. ⌜ Grown self r (prefixBytes p) ⌝ }
-    {
-        let a = self.push(b'A' + (p / 52) as u8);
-        let b = a.push(b'A' + (p / 2 % 26) as u8);
-        if p % 2 == 0 {
-            b.push(b'C')
-        } else {
-            b.push(b'Z')
-        }
-    }
-
-    // The prefix, unless it is that of the last element.
-    fn headed(self, last: Last, p: u32) -> Element
-        requires { ⌜ (self .len + 3 ≤ elementMost) × (p < prefixes) ⌝ }
-        ensures { λ r. ⌜ Grown self r (heading (lastOf last) p) ⌝ }
-        ensures most { λ r. ⌜ r .len ≤ self .len + 3 ⌝ }
-    {
-        if is_last(last, p) {
-            return self;
-        }
-        self.prefix(p)
-    }
-
-    // The end of a range of so many more after n; a single number has none.
-    fn ended(self, n: u32, more: u32) -> Element
-        requires { ⌜ (self .len + 4 ≤ elementMost) × (n + more ≤ 999) ⌝ }
-        ensures { λ r. ⌜ Grown self r (upTo n more) ⌝ }
-        ensures most { λ r. ⌜ r .len ≤ self .len + 4 ⌝ }
-    {
-        if more == 0 {
-            return self;
-        }
-        let a = self.push(b'>');
-        a.three(n + more)
-    }
+    good & (places[n - 1] < PLACES_END)
 }
 
 // Whether p is the prefix of the last element.
@@ -169,27 +80,124 @@ fn is_last(last: Last, p: u32) -> bool
     }
 }
 
-// The element of lo and so many more.
-fn spelled(last: Last, lo: u32, more: u32) -> Element
-    requires { ⌜ (lo < placesEnd) × (lo % 1000 + more ≤ 999) ⌝ }
-    ensures { λ r. ⌜ Spelled r (elementOf (lastOf last) (run lo more)) ⌝ }
+// An element's bytes go straight to their places in the output. Were it built by value, a copy of it would wait for each of its bytes.
+fn put_two(out: &mut [u8], pos: usize, n: usize) -> usize
+    requires { ⌜ (pos + 2 ≤ length (now out)) × (n ≤ 99) ⌝ }
+    ensures { λ r. ⌜ Stored (now (out .entry)) (now (out .exit)) pos r (twoBytes n) ⌝ }
 {
-    let a = Element::empty();
-    let b = a.headed(last, lo / 1000);
-    let c = b.three(lo % 1000);
-    let d = c.ended(lo % 1000, more);
-    d.push(b'-')
+    out[pos] = b'0' + (n / 10) as u8;
+    out[pos + 1] = b'0' + (n % 10) as u8;
+    pos + 2
 }
 
-fn purge(stamp: Stamp) -> Element
-    requires { ⌜ isTime stamp ≡ true ⌝ }
-    ensures { λ r. ⌜ Spelled r (purgeElement stamp) ⌝ }
+fn put_bytes(out: &mut [u8], pos: usize, x: u8, y: u8, z: u8) -> usize
+    requires { ⌜ pos + 3 ≤ length (now out) ⌝ }
+    ensures { λ r. ⌜ Stored (now (out .entry)) (now (out .exit)) pos r (x ∷ y ∷ z ∷ []) ⌝ }
 {
-    let a = Element::empty();
-    let b = a.two(stamp.day);
-    let c = b.two(stamp.hour);
-    let d = c.two(stamp.minute);
-    d.push(b'-')
+    out[pos] = x;
+    out[pos + 1] = y;
+    out[pos + 2] = z;
+    pos + 3
+}
+
+fn put_three(out: &mut [u8], pos: usize, n: u32) -> usize
+    requires { ⌜ (pos + 3 ≤ length (now out)) × (n ≤ 999) ⌝ }
+    ensures { λ r. ⌜ Stored (now (out .entry)) (now (out .exit)) pos r (threeBytes n) ⌝ }
+{
+    let hundreds = b'0' + (n / 100) as u8;
+    let tens = b'0' + (n / 10 % 10) as u8;
+    let ones = b'0' + (n % 10) as u8;
+    put_bytes(&mut *out, pos, hundreds, tens, ones)
+}
+
+// The third letter of a prefix.
+fn kind(p: u32) -> u8
+    ensures { λ r. ⌜ r ≡ getD (prefixBytes p) 2 0 ⌝ }
+{
+    if p % 2 == 0 {
+        return b'C';
+    }
+    b'Z'
+}
+
+fn put_prefix(out: &mut [u8], pos: usize, p: u32) -> usize
+    requires { ⌜ (pos + 3 ≤ length (now out)) × (p < prefixes) ⌝ }
+    ensures { λ r. ⌜ Stored (now (out .entry)) (now (out .exit)) pos r (prefixBytes p) ⌝ }
+{
+    let first = b'A' + (p / 52) as u8;
+    let second = b'A' + (p / 2 % 26) as u8;
+    put_bytes(&mut *out, pos, first, second, kind(p))
+}
+
+// The prefix, unless it is that of the last element.
+fn put_heading(out: &mut [u8], pos: usize, last: Last, p: u32) -> usize
+    requires { ⌜ (pos + 3 ≤ length (now out)) × (p < prefixes) ⌝ }
+    ensures { λ r. ⌜ Stored (now (out .entry)) (now (out .exit)) pos r (heading (lastOf last) p) ⌝ }
+    ensures most { λ r. ⌜ r ≤ pos + 3 ⌝ }
+{
+    if is_last(last, p) {
+        return pos;
+    }
+    put_prefix(&mut *out, pos, p)
+}
+
+// The end of a range of so many more after n; a single number has none.
+fn put_end(out: &mut [u8], pos: usize, n: u32, more: u32) -> usize
+    requires { ⌜ (pos + 4 ≤ length (now out)) × (n + more ≤ 999) ⌝ }
+    ensures { λ r. ⌜ Stored (now (out .entry)) (now (out .exit)) pos r (upTo n more) ⌝ }
+    ensures most { λ r. ⌜ r ≤ pos + 4 ⌝ }
+{
+    if more == 0 {
+        return pos;
+    }
+    out[pos] = b'>';
+    put_three(&mut *out, pos + 1, n + more)
+}
+
+// The element of lo and so many more.
+fn put_element(out: &mut [u8], pos: usize, last: Last, lo: u32, more: u32) -> usize
+    requires { ⌜ (pos + elementMost ≤ length (now out)) × (lo < placesEnd) × (lo % 1000 + more ≤ 999) ⌝ }
+    ensures { λ r. ⌜ Stored (now (out .entry)) (now (out .exit)) pos r (elementOf (lastOf last) (run lo more)) ⌝ }
+{
+    let n = lo % 1000;
+    let number = put_heading(&mut *out, pos, last, lo / 1000);
+    let range = put_three(&mut *out, number, n);
+    let end = put_end(&mut *out, range, n, more);
+    out[end] = b'-';
+    end + 1
+}
+
+fn heading_length(last: Last, p: u32) -> usize
+    ensures { λ r. ⌜ r ≡ length (heading (lastOf last) p) ⌝ }
+    ensures most { λ r. ⌜ r ≤ 3 ⌝ }
+{
+    if is_last(last, p) {
+        return 0;
+    }
+    3
+}
+
+// How many bytes the element of lo and so many more has, `nnn-` or `nnn>mmm-` behind its prefix.
+fn element_length(last: Last, lo: u32, more: u32) -> usize
+    ensures { λ r. ⌜ r ≡ length (elementOf (lastOf last) (run lo more)) ⌝ }
+    ensures most { λ r. ⌜ r ≤ elementMost ⌝ }
+{
+    let n = heading_length(last, lo / 1000);
+    if more == 0 {
+        return n + 4;
+    }
+    n + 8
+}
+
+fn put_purge(out: &mut [u8], pos: usize, stamp: Stamp) -> usize
+    requires { ⌜ (pos + elementMost ≤ length (now out)) × (isTime stamp ≡ true) ⌝ }
+    ensures { λ r. ⌜ Stored (now (out .entry)) (now (out .exit)) pos r (purgeElement stamp) ⌝ }
+{
+    let hour = put_two(&mut *out, pos, stamp.day);
+    let minute = put_two(&mut *out, hour, stamp.hour);
+    let end = put_two(&mut *out, minute, stamp.minute);
+    out[end] = b'-';
+    end + 1
 }
 
 // Copies the first n bytes of a text to pos.
@@ -204,45 +212,50 @@ fn put(out: &mut [u8], pos: usize, text: &[u8], n: usize)
     }
 }
 
-// Copies the element to pos.
-fn copy(out: &mut [u8], pos: usize, e: Element) -> usize
-    requires { ⌜ (e .len ≤ elementMost) × (pos + e .len ≤ length (now out)) ⌝ }
-    ensures { λ r. ⌜ (r ≡ pos + e .len) × (now (out .exit) ≡ sets (now (out .entry)) pos (textOf e)) ⌝ }
-{
-    let n = e.len;
-    let bytes = e.bytes;
-    put(&mut *out, pos, &bytes, n);
-    pos + n
-}
-
 fn end_line(out: &mut [u8], pos: usize) -> usize
     requires { ⌜ pos + 3 ≤ length (now out) ⌝ }
-    ensures { λ r. ⌜ (r ≡ pos + 3) × (now (out .exit) ≡ sets (now (out .entry)) pos (bytes "\r\r\n")) ⌝ }
+    ensures { λ r. ⌜ Stored (now (out .entry)) (now (out .exit)) pos r (bytes "\r\r\n") ⌝ }
 {
-    out[pos] = b'\r';
-    out[pos + 1] = b'\r';
-    out[pos + 2] = b'\n';
-    pos + 3
+    put_bytes(&mut *out, pos, b'\r', b'\r', b'\n')
 }
 
-// Sets an element in the line, or in a new one.
-fn add(out: &mut [u8], pen: Pen, e: Element) -> Pen
-    requires { ⌜ (e .len ≤ elementMost) × (pen .pos + inkMost ≤ length (now out)) × (pen .col ≤ writtenMost) ⌝ }
-    ensures { λ r. ⌜ Inked (now (out .entry)) (now (out .exit)) pen r (textOf e ∷ []) ⌝ }
+// Where an element of n bytes goes: in this line, or in a new one if it would carry this one too far.
+fn make_room(out: &mut [u8], pen: Pen, n: usize) -> Pen
+    requires { ⌜ (n ≤ elementMost) × (pen .pos + 3 ≤ length (now out)) × (pen .col ≤ writtenMost) ⌝ }
+    ensures { λ r. ⌜ Room (now (out .entry)) (now (out .exit)) pen r n ⌝ }
 {
-    let pos = pen.pos;
-    let col = pen.col;
-    let n = e.len;
-    if col + n <= WRITTEN_MOST {
-        let end = copy(&mut *out, pos, e);
-        return Pen {
-            pos: end,
-            col: col + n,
-        };
+    if pen.col + n <= WRITTEN_MOST {
+        return pen;
     }
-    let start = end_line(&mut *out, pos);
-    let end = copy(&mut *out, start, e);
-    Pen { pos: end, col: n }
+    let start = end_line(&mut *out, pen.pos);
+    Pen { pos: start, col: 0 }
+}
+
+// Sets the element of lo and so many more in the line, or in a new one.
+fn add(out: &mut [u8], pen: Pen, last: Last, lo: u32, more: u32) -> Pen
+    requires { ⌜ (lo < placesEnd) × (lo % 1000 + more ≤ 999) × (pen .pos + inkMost ≤ length (now out)) × (pen .col ≤ writtenMost) ⌝ }
+    ensures { λ r. ⌜ Inked (now (out .entry)) (now (out .exit)) pen r (elementOf (lastOf last) (run lo more) ∷ []) ⌝ }
+{
+    let n = element_length(last, lo, more);
+    let at = make_room(&mut *out, pen, n);
+    let end = put_element(&mut *out, at.pos, last, lo, more);
+    Pen {
+        pos: end,
+        col: at.col + n,
+    }
+}
+
+// The same of the purge.
+fn add_purge(out: &mut [u8], pen: Pen, stamp: Stamp) -> Pen
+    requires { ⌜ (isTime stamp ≡ true) × (pen .pos + inkMost ≤ length (now out)) × (pen .col ≤ writtenMost) ⌝ }
+    ensures { λ r. ⌜ Inked (now (out .entry)) (now (out .exit)) pen r (purgeElement stamp ∷ []) ⌝ }
+{
+    let at = make_room(&mut *out, pen, PURGE_LENGTH);
+    let end = put_purge(&mut *out, at.pos, stamp);
+    Pen {
+        pos: end,
+        col: at.col + PURGE_LENGTH,
+    }
 }
 
 fn joins(p: u32, q: u32) -> bool
@@ -259,13 +272,10 @@ fn flush(out: &mut [u8], pen: Pen, last: Last, lo: u32, more: u32) -> Pen
     ensures most { λ r. ⌜ r .pos ≤ pen .pos + 2 * inkMost ⌝ }
 {
     if more == 1 {
-        let e = spelled(last, lo, 0);
-        let next = add(&mut *out, pen, e);
-        let f = spelled(Last::Prefix(lo / 1000), lo + 1, 0);
-        return add(&mut *out, next, f);
+        let next = add(&mut *out, pen, last, lo, 0);
+        return add(&mut *out, next, Last::Prefix(lo / 1000), lo + 1, 0);
     }
-    let e = spelled(last, lo, more);
-    add(&mut *out, pen, e)
+    add(&mut *out, pen, last, lo, more)
 }
 
 // The next place: it joins the open run, or that is written and the place opens another.
@@ -304,8 +314,7 @@ fn close(out: &mut [u8], s: State, stamp: Stamp) -> usize
     let lo = s.lo;
     let more = s.more;
     let a = flush(&mut *out, pen, last, lo, more);
-    let e = purge(stamp);
-    let b = add(&mut *out, a, e);
+    let b = add_purge(&mut *out, a, stamp);
     end_line(&mut *out, b.pos)
 }
 

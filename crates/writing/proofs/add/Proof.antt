@@ -1,5 +1,5 @@
 use borrow.Author.Needs.{needs}
-use Rattle.writing.proofs.Inking.{inked-same, inked-new}
+use Rattle.writing.proofs.Inking.{inked-one}
 use Rattle.writing.proofs.add.Statement.{statement}
 use Rattle.writing.proofs.add.Tie as tie
 
@@ -7,12 +7,9 @@ pub add-spec : {M : Type 1} → statement M
 add-spec =
     tie.close
     (tie.spec
-    (λ c. search needs)
+    (λ c κs. search needs)
+    (λ c κs. search needs)
     (λ c κs. search needs)
     (λ c. search needs)
     (λ c. search needs)
-    (λ c. search (inked-same, needs))
-    (λ c κs. search needs)
-    (λ c κs. search needs)
-    (λ c. search needs)
-    (λ c. search (inked-new, needs)))
+    (λ c. search (inked-one, needs)))

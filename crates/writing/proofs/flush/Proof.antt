@@ -10,13 +10,10 @@ flush-spec =
     tie.close
     (tie.spec
     (λ c κs. search needs)
-    (λ c κs. search needs)
     (λ c. search needs)
-    (λ c κs. search needs)
     (λ c κs. search needs)
     (λ c. search needs)
     (λ c. (search (flush-two, needs), omega arith))
     (λ c κs. search (open-within, needs))
-    (λ c κs. search needs)
     (λ c. search needs)
     (λ c. (search (flush-one, needs), omega arith)))

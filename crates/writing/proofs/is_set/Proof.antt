@@ -1,15 +1,15 @@
 use Prim.Native.Nat.{_-_}
 use lib.ListN.{length}
 use borrow.Author.Needs.{needs}
-use Rattle.writing.proofs.Rising.{Rises, rises-start, rises-on, set-short, set-long, rises-low, rises-far, rises-end}
+use Rattle.writing.proofs.Rising.{Rises, rises-start, rises-on, set-short, set-long, rises-end}
 use Rattle.writing.proofs.is_set.Statement.{statement}
 use Rattle.writing.proofs.is_set.Tie as tie
 
 abbrev Inv-loop : tie.InvT-loop
-Inv-loop places n least₀ i₀ least i = Rises places least i
+Inv-loop places n good₀ i₀ good i = Rises places good i
 
 abbrev μ-loop : tie.MeasureT-loop
-μ-loop places n least₀ i₀ least i = length places - i
+μ-loop places n good₀ i₀ good i = length places - i
 
 pub is-set-spec : {M : Type 1} → statement M
 is-set-spec =
@@ -22,10 +22,12 @@ is-set-spec =
     (λ c. search (rises-start, needs))
     (λ c. search needs)
     (λ c. search needs)
-    (λ c. search (rises-low, needs))
-    (λ c. search (rises-far, needs))
+    (λ c. search needs)
+    (λ c. search needs)
     (λ c. search needs)
     (λ c. search needs)
     (λ c. search needs)
     (λ c. search (rises-on, needs))
+    (λ c. search needs)
+    (λ c. search needs)
     (λ c. search (rises-end, needs)))

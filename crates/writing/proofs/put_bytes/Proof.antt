@@ -1,13 +1,12 @@
-use native.Mathlib.Numerals.{towards-suc}
 use native.Mathlib.Omega.{arith}
-use mathlib.Core.Path.{refl}
 use lib.ListN.{length-set}
 use borrow.Author.Needs.{needs}
-use Rattle.writing.proofs.end_line.Statement.{statement}
-use Rattle.writing.proofs.end_line.Tie as tie
+use Rattle.writing.proofs.Spelling.{stored-three}
+use Rattle.writing.proofs.put_bytes.Statement.{statement}
+use Rattle.writing.proofs.put_bytes.Tie as tie
 
-pub end-line-spec : {M : Type 1} → statement M
-end-line-spec =
+pub put-bytes-spec : {M : Type 1} → statement M
+put-bytes-spec =
     tie.close
     (tie.spec
     (λ c. search needs)
@@ -17,4 +16,4 @@ end-line-spec =
     (λ c. simp length-set (omega arith))
     (λ c. search needs)
     (λ c. search needs)
-    (λ c. (refl, simp towards-suc)))
+    (λ c. search (stored-three, needs)))
