@@ -1,4 +1,3 @@
-pub mod Edits
 pub mod Copies
 pub mod Works
 pub mod Admits

@@ -1,17 +1,13 @@
-// The calls of a draft: document 01, "Steps". Commit stands with undo, in another crate.
+// The calls that open, fill, read and drop a draft: document 01, "Steps". The changes of a copy stand in `edits`, commit and undo in `history`.
+// `admit`, `find_copy`, `refused` and `wide` are for the book's own calls, here and in `edits`; `find_copy` may be asked only what was admitted.
 ghost use mathlib.Core.Path.{_≡_};
-ghost use mathlib.Core.Bool.{true, false};
-ghost use mathlib.Core.Option.{some};
-ghost use Prim.Native.Nat.{_<_, _≤_};
+ghost use mathlib.Core.Bool.{true};
+ghost use Prim.Native.Nat.{_≤_};
 ghost use lib.ListN.{length};
 ghost use Rattle.refusal.specs.Answer.{paperVerdict};
-ghost use Rattle.codes.specs.Places.{capacity, ascends};
-ghost use Rattle.codes.specs.Block.{insert};
-ghost use Rattle.blocks.specs.Block.{bookLength, blockCount, putBlock};
-ghost use Rattle.blocks.specs.Content.{holding};
-ghost use Rattle.blocks.specs.Held.{heldContent, Fits};
+ghost use Rattle.blocks.specs.Block.{bookLength};
 ghost use Rattle.steps.specs.Book.{at, draftAt};
-ghost use Rattle.steps.specs.Calls.{member, without, on, editing, readPurge, readCount, readPlace, add, remove, setPurge, taking, opening, lowest};
+ghost use Rattle.steps.specs.Calls.{on, editing, readPurge, readCount, readPlace, taking, opening, lowest};
 ghost use Rattle.layout.specs.Layout.{bookOf, copiesOf};
 ghost use Rattle.layout.specs.Rule.{onBytes, paperReply, Does};
 ghost use Rattle.drafts.specs.Admission.{isOpen, exists, admission};
@@ -19,109 +15,25 @@ ghost use Rattle.drafts.specs.Copies.{paperFound, copyBlock, Admitted};
 ghost use Rattle.layout.specs.Sound.{isSound};
 ghost use Rattle.drafts.specs.Opening.{paperLowest};
 ghost use Rattle.steps.specs.Calls as calls;
-use blocks::Held;
-use calendar::Moment;
-use calendar::Stamp;
 use layout::Reply;
 use refusal::Refusal;
 use refusal::Verdict;
 
 // Where a draft's copy of a segment stands: the block's number.
-enum Found {
+pub enum Found {
     Copy(usize),
     NotTaken,
 }
 
-// Whether p is one of the places.
-fn has_place(h: Held, p: u32) -> bool
-    requires { ⌜ Fits h ⌝ }
-    ensures { λ r. ⌜ r ≡ member p (heldContent h .places) ⌝ }
-{
-    let places = h.places;
-    let count = h.count;
-    let mut i = 0;
-    while i < count {
-        if places[i] == p {
-            return true;
-        }
-        i += 1;
-    }
-    false
-}
-
-// The content with p put in: each greater place goes on to the next index.
-fn with_place(h: Held, p: u32) -> Held
-    requires { ⌜ Fits h ⌝ }
-    requires { ⌜ h .count < capacity ⌝ }
-    requires { ⌜ ascends 0 (heldContent h .places) ≡ true ⌝ }
-    requires { ⌜ member p (heldContent h .places) ≡ false ⌝ }
-    ensures is { λ r. ⌜ heldContent r ≡ record { purge = h .purge; places = insert p (heldContent h .places) } ⌝ }
-    ensures fits { λ r. ⌜ Fits r ⌝ }
-{
-    let mut places = h.places;
-    let count = h.count;
-    let mut carry = p;
-    let mut i = 0;
-    while i < count {
-        let x = places[i];
-        if carry < x {
-            places[i] = carry;
-            carry = x;
-            i += 1;
-            continue;
-        }
-        i += 1;
-    }
-    places[count] = carry;
-    Held {
-        purge: h.purge,
-        places,
-        count: count + 1,
-    }
-}
-
-// The content with p taken out: each later place goes down to the index before.
-fn without_place(h: Held, p: u32) -> Held
-    requires { ⌜ Fits h ⌝ }
-    requires { ⌜ ascends 0 (heldContent h .places) ≡ true ⌝ }
-    ensures is { λ r. ⌜ heldContent r ≡ record { purge = h .purge; places = without p (heldContent h .places) } ⌝ }
-    ensures fits { λ r. ⌜ Fits r ⌝ }
-{
-    let mut places = h.places;
-    let count = h.count;
-    let mut left = 0;
-    let mut i = 0;
-    while i < count {
-        let x = places[i];
-        i += 1;
-        if x == p {
-            continue;
-        }
-        places[left] = x;
-        left += 1;
-    }
-    Held {
-        purge: h.purge,
-        places,
-        count: left,
-    }
-}
-
-fn wide(n: u32) -> usize
+// A number of 32 bits as a size.
+pub fn wide(n: u32) -> usize
     ensures { λ r. ⌜ r ≡ n ⌝ }
 {
     n as usize
 }
 
-// A place or a minute, which is small enough.
-fn narrow(n: usize) -> u32
-    requires { ⌜ n < 4294967296 ⌝ }
-    ensures { λ r. ⌜ r ≡ n ⌝ }
-{
-    n as u32
-}
-
-fn refused(number: usize) -> Reply
+// A refusal of a call on a book: its place is 0.
+pub fn refused(number: usize) -> Reply
     ensures { λ r. ⌜ r ≡ Reply.Refused (record { number = number; place = 0 }) ⌝ }
 {
     Reply::Refused(Refusal { number, place: 0 })
@@ -161,7 +73,7 @@ fn is_there(book: &[u8], s: usize) -> bool
 }
 
 // What every work of a draft on a segment asks first.
-fn admit(book: &[u8], d: usize, in_range: bool, s: usize) -> Verdict
+pub fn admit(book: &[u8], d: usize, in_range: bool, s: usize) -> Verdict
     ensures { λ r. ⌜ paperVerdict r ≡ admission (now (book .entry)) d in_range s ⌝ }
 {
     if book.len() != 25088 {
@@ -186,7 +98,7 @@ fn admit(book: &[u8], d: usize, in_range: bool, s: usize) -> Verdict
 }
 
 // The block of a draft's copy of a segment.
-fn find_copy(book: &[u8], d: usize, s: usize) -> Found
+pub fn find_copy(book: &[u8], d: usize, s: usize) -> Found
     requires { ⌜ Admitted (now book) d s ⌝ }
     ensures { λ r. ⌜ paperFound r ≡ copyBlock (now (book .entry)) d s ⌝ }
 {
@@ -353,99 +265,4 @@ pub fn read_place(book: &[u8], d: usize, s: usize, i: usize) -> Reply
         return refused(refusal::OUT_OF_RANGE);
     }
     Reply::Number(wide(h.places[i]))
-}
-
-// Stores a content by value in block k.
-fn store_held(book: &mut [u8], k: usize, h: Held)
-    requires { ⌜ (length (now book) ≡ bookLength) × (k < blockCount) ⌝ }
-    requires { ⌜ Fits h ⌝ }
-    ensures { λ _. ⌜ now (book .exit) ≡ putBlock k (holding (some (heldContent h))) (now (book .entry)) ⌝ }
-{
-    let places = h.places;
-    let count = h.count;
-    blocks::store(book, k, h.purge, &places[0..count]);
-}
-
-// Another purge minute of a draft's copy: the one that DDHHMM gives.
-pub fn set_purge(book: &mut [u8], d: usize, s: usize, time: Stamp) -> Reply
-    ensures is { λ r. ⌜ paperReply r ≡ onBytes (now (book .entry)) (on d s (editing (setPurge time))) .0 ⌝ }
-    ensures left { λ _. ⌜ now (book .exit) ≡ onBytes (now (book .entry)) (on d s (editing (setPurge time))) .1 ⌝ }
-{
-    let in_range = calendar::is_time(time);
-    let verdict = admit(book, d, in_range, s);
-    if let Verdict::Refused(r) = verdict {
-        return Reply::Refused(r);
-    }
-    let Found::Copy(k) = find_copy(book, d, s) else {
-        return refused(refusal::NOT_TAKEN);
-    };
-    let h = blocks::load(book, k);
-    let issue = wide(blocks::number_at(book, 0));
-    let Moment::At(minute) = calendar::purge_of(issue, time) else {
-        return refused(refusal::WRONG_TIME);
-    };
-    let purge = narrow(minute);
-    let places = h.places;
-    let count = h.count;
-    let new = Held {
-        purge,
-        places,
-        count,
-    };
-    store_held(book, k, new);
-    Reply::Number(minute)
-}
-
-// A place added to a draft's copy.
-pub fn add(book: &mut [u8], d: usize, s: usize, p: usize) -> Reply
-    ensures is { λ r. ⌜ paperReply r ≡ onBytes (now (book .entry)) (on d s (editing (add p))) .0 ⌝ }
-    ensures left { λ _. ⌜ now (book .exit) ≡ onBytes (now (book .entry)) (on d s (editing (add p))) .1 ⌝ }
-{
-    let in_range = p < 1352000;
-    let verdict = admit(book, d, in_range, s);
-    if let Verdict::Refused(r) = verdict {
-        return Reply::Refused(r);
-    }
-    let Found::Copy(k) = find_copy(book, d, s) else {
-        return refused(refusal::NOT_TAKEN);
-    };
-    let h = blocks::load(book, k);
-    let place = narrow(p);
-    let there = has_place(h, place);
-    if there {
-        return Reply::Was(true);
-    }
-    if 120 <= h.count {
-        return refused(refusal::SEGMENT_FULL);
-    }
-    let new = with_place(h, place);
-    store_held(book, k, new);
-    Reply::Was(false)
-}
-
-// A place removed from a draft's copy.
-pub fn remove(book: &mut [u8], d: usize, s: usize, p: usize) -> Reply
-    ensures is { λ r. ⌜ paperReply r ≡ onBytes (now (book .entry)) (on d s (editing (remove p))) .0 ⌝ }
-    ensures left { λ _. ⌜ now (book .exit) ≡ onBytes (now (book .entry)) (on d s (editing (remove p))) .1 ⌝ }
-{
-    let in_range = p < 1352000;
-    let verdict = admit(book, d, in_range, s);
-    if let Verdict::Refused(r) = verdict {
-        return Reply::Refused(r);
-    }
-    let Found::Copy(k) = find_copy(book, d, s) else {
-        return refused(refusal::NOT_TAKEN);
-    };
-    let h = blocks::load(book, k);
-    let place = narrow(p);
-    let there = has_place(h, place);
-    if !there {
-        return Reply::Was(false);
-    }
-    if h.count == 1 {
-        return refused(refusal::ONLY_PLACE);
-    }
-    let new = without_place(h, place);
-    store_held(book, k, new);
-    Reply::Was(true)
 }

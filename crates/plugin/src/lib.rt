@@ -149,7 +149,7 @@ pub extern "C" fn hollgrimsa_add(book: &mut [u8], d: u64, s: u64, p: u64) -> u64
     ensures is { λ r. ⌜ r ≡ packed (onBytes (now (book .entry)) (on d s (editing (add p))) .0) ⌝ }
     ensures left { λ _. ⌜ now (book .exit) ≡ onBytes (now (book .entry)) (on d s (editing (add p))) .1 ⌝ }
 {
-    pack_reply(drafts::add(book, d as usize, s as usize, p as usize))
+    pack_reply(edits::add(book, d as usize, s as usize, p as usize))
 }
 
 // Removes place p from draft d's copy of segment s, and answers whether it was there.
@@ -158,7 +158,7 @@ pub extern "C" fn hollgrimsa_remove(book: &mut [u8], d: u64, s: u64, p: u64) -> 
     ensures is { λ r. ⌜ r ≡ packed (onBytes (now (book .entry)) (on d s (editing (remove p))) .0) ⌝ }
     ensures left { λ _. ⌜ now (book .exit) ≡ onBytes (now (book .entry)) (on d s (editing (remove p))) .1 ⌝ }
 {
-    pack_reply(drafts::remove(book, d as usize, s as usize, p as usize))
+    pack_reply(edits::remove(book, d as usize, s as usize, p as usize))
 }
 
 // Gives draft d's copy of segment s the purge minute of DD, HH and MM, and answers it.
@@ -179,7 +179,7 @@ pub extern "C" fn hollgrimsa_set_purge(
         hour: hour as usize,
         minute: minute as usize,
     };
-    pack_reply(drafts::set_purge(book, d as usize, s as usize, time))
+    pack_reply(edits::set_purge(book, d as usize, s as usize, time))
 }
 
 // Commits draft d, and answers the segments that changed.

@@ -276,15 +276,15 @@ fn copy_call(book: &mut [u8], kind: u8, n: [usize; 5]) -> Reply {
         b'P' => drafts::read_purge(book, d, s),
         b'N' => drafts::read_count(book, d, s),
         b'I' => drafts::read_place(book, d, s, n[2]),
-        b'A' => drafts::add(book, d, s, n[2]),
-        b'X' => drafts::remove(book, d, s, n[2]),
+        b'A' => edits::add(book, d, s, n[2]),
+        b'X' => edits::remove(book, d, s, n[2]),
         _ => {
             let time = Stamp {
                 day: n[2],
                 hour: n[3],
                 minute: n[4],
             };
-            drafts::set_purge(book, d, s, time)
+            edits::set_purge(book, d, s, time)
         }
     }
 }

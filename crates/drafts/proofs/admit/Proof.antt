@@ -1,4 +1,3 @@
-use borrow.Author.Needs.{needs}
 use Rattle.drafts.proofs.Finds.{admit-short, admit-bad, admit-shut, admit-far, admit-none, admit-all}
 use borrow.Author.Needs.{needs}
 use Rattle.drafts.proofs.admit.Statement.{statement}

@@ -1,4 +1,3 @@
-use borrow.Author.Needs.{needs}
 use Rattle.drafts.proofs.Finds.{find-first, find-second, find-none}
 use borrow.Author.Needs.{needs}
 use Rattle.drafts.proofs.find_copy.Statement.{statement}

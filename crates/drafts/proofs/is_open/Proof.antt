@@ -1,4 +1,3 @@
-use borrow.Author.Needs.{needs}
 use Rattle.drafts.proofs.Finds.{open-zero, open-far, open-is}
 use borrow.Author.Needs.{needs}
 use Rattle.drafts.proofs.is_open.Statement.{statement}

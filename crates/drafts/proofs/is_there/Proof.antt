@@ -1,4 +1,3 @@
-use borrow.Author.Needs.{needs}
 use Rattle.drafts.proofs.Finds.{there-zero, there-is}
 use borrow.Author.Needs.{needs}
 use Rattle.drafts.proofs.is_there.Statement.{statement}

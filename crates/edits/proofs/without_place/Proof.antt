@@ -1,8 +1,8 @@
 use borrow.Author.Needs.{needs}
 use Prim.Native.Nat.{_-_}
-use Rattle.drafts.proofs.Edits.{Leaves, leaves-start, leaves-out, leaves-on, without-held, without-fits}
-use Rattle.drafts.proofs.without_place.Statement.{statement}
-use Rattle.drafts.proofs.without_place.Tie as tie
+use Rattle.edits.proofs.Places.{Leaves, leaves-start, leaves-out, leaves-on, without-held, without-fits}
+use Rattle.edits.proofs.without_place.Statement.{statement}
+use Rattle.edits.proofs.without_place.Tie as tie
 
 abbrev Inv-loop : tie.InvT-loop
 Inv-loop h p places₀ count left₀ i₀ places left i = Leaves places₀ places count p i left

@@ -1,7 +1,7 @@
-use Rattle.drafts.proofs.Ways.{stored-part}
+use Rattle.edits.proofs.Ways.{stored-part}
 use borrow.Author.Needs.{needs}
-use Rattle.drafts.proofs.store_held.Statement.{statement}
-use Rattle.drafts.proofs.store_held.Tie as tie
+use Rattle.edits.proofs.store_held.Statement.{statement}
+use Rattle.edits.proofs.store_held.Tie as tie
 
 pub store-held-spec : {M : Type 1} → statement M
 store-held-spec =

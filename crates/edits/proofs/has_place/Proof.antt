@@ -1,8 +1,8 @@
 use borrow.Author.Needs.{needs}
 use Prim.Native.Nat.{_-_}
-use Rattle.drafts.proofs.Edits.{Seeks, seeks-start, seeks-on, seeks-here, seeks-end}
-use Rattle.drafts.proofs.has_place.Statement.{statement}
-use Rattle.drafts.proofs.has_place.Tie as tie
+use Rattle.edits.proofs.Places.{Seeks, seeks-start, seeks-on, seeks-here, seeks-end}
+use Rattle.edits.proofs.has_place.Statement.{statement}
+use Rattle.edits.proofs.has_place.Tie as tie
 
 abbrev Inv-loop : tie.InvT-loop
 Inv-loop p places count i₀ i = Seeks places count p i

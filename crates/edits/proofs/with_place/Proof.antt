@@ -1,8 +1,8 @@
 use borrow.Author.Needs.{needs}
 use Prim.Native.Nat.{_-_}
-use Rattle.drafts.proofs.Edits.{Carries, carries-start, carries-swap, carries-on, with-held, with-fits}
-use Rattle.drafts.proofs.with_place.Statement.{statement}
-use Rattle.drafts.proofs.with_place.Tie as tie
+use Rattle.edits.proofs.Places.{Carries, carries-start, carries-swap, carries-on, with-held, with-fits}
+use Rattle.edits.proofs.with_place.Statement.{statement}
+use Rattle.edits.proofs.with_place.Tie as tie
 
 abbrev Inv-loop : tie.InvT-loop
 Inv-loop h p places₀ count carry₀ i₀ places carry i = Carries places₀ places count p i carry
