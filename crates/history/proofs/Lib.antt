@@ -1,3 +1,4 @@
+pub mod Stores
 pub mod CommitStore
 pub mod CommitFound
 pub mod CommitRule

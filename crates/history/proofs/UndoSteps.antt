@@ -7,7 +7,6 @@ use mathlib.Core.Option.{some}
 use Prim.Native.Nat.{ℕ, suc, _+_, _*_, _-_, _≤_, _<_}
 use native.Mathlib.Omega.{arith}
 use lib.ListN.{length, getD, getElem?}
-use borrow.Author.Tests.{eq-eqb, ne-eqb}
 use Rattle.laws.proofs.Tests.{by-order, impossible}
 use Rattle.steps.specs.Book.{Copy, Book}
 use Rattle.steps.specs.Calls.{numbers, newest}
@@ -15,10 +14,12 @@ use Rattle.layout.specs.Layout.{partOf, heldIn, copiesAt, stepOf, bookOf}
 use Rattle.layout.specs.Sound.{isSound}
 use Rattle.layout.proofs.Says.{StepSays, single, pair}
 use Rattle.layout.proofs.Parts.{Parts, sound-parts, step-cases}
-use Rattle.layout.proofs.Said.{copyAt, copies-one, copies-two, steps-length, step-of}
+use Rattle.layout.proofs.Said.{copyAt, copies-one, copies-two, segments-length, steps-length, step-of}
 use Rattle.layout.proofs.Stands.{part-before}
 use Rattle.moves.specs.Named.{named}
+use Rattle.history.specs.Changing.{Stands, Finds}
 use Rattle.history.specs.LastStep.{LastStep}
+use Rattle.history.proofs.Stores.{finds-numbers}
 
 -- ---- what the two bytes say
 -- one segment or two, which exist
@@ -31,15 +32,8 @@ ranges : {n first second : ℕ} → StepSays n first second → Ranges n first s
 ranges (single h g e) = record { from = h; to = g; other = omega arith }
 ranges (pair h g k) = record { from = h; to = omega arith; other = k }
 
--- the copies in two blocks, by the second segment's number
-numbers-at : (l : List ℕ) (first second k : ℕ) → 1 ≤ first → numbers (copiesAt l first second k) ≡ named first second
-numbers-at l first second k h =
-    by-order second 1
-    (λ g. let z : second ≡ 0 = omega arith in rw (copies-one l first second k h z, eq-eqb second 0 z))
-    (λ g. rw (copies-two l first second k h g, ne-eqb second 0 (λ z. omega arith)))
-
 -- what block j of step r holds
-pub held-is : (b : Book) (r j : ℕ) (cs : List Copy) (k : Copy) → j < 2 → getElem? (b .history .kept) r ≡ some cs → getElem? cs j ≡ some k
+held-is : (b : Book) (r j : ℕ) (cs : List Copy) (k : Copy) → j < 2 → getElem? (b .history .kept) r ≡ some cs → getElem? cs j ≡ some k
     → heldIn b (partOf (17 + 2 * r + j)) ≡ some (k .held)
 unfolding heldIn
 held-is b r j cs k h e f = rw (part-before r j h, e, f)
@@ -71,11 +65,11 @@ last-step l n r first second sound is ne er one two =
 
 module _ (l : List ℕ) (r first second : ℕ) (s : LastStep l r first second) where
   -- its segments exist
-  pub ranged : Ranges (getD l 4 0) first second
+  ranged : Ranges (getD l 4 0) first second
   ranged = ranges (says l r first second (s .sound) (s .count) (s .one) (s .two))
 
   -- it is in the book, and it is the newest
-  pub step-there : getElem? (bookOf l .history .kept) r ≡ some (stepOf l r)
+  step-there : getElem? (bookOf l .history .kept) r ≡ some (stepOf l r)
   step-there = step-of l r (omega (arith, s .count))
 
   pub step-count : length (bookOf l .history .kept) ≡ r + 1
@@ -92,11 +86,50 @@ module _ (l : List ℕ) (r first second : ℕ) (s : LastStep l r first second) w
   unfolding stepOf
   step-is = rw (s .one, s .two)
 
-  pub numbers-are : numbers (stepOf l r) ≡ named first second
-  numbers-are = ap numbers step-is ∙ numbers-at l first second (17 + 2 * r) (s .from)
-
-  pub step-one : second ≡ 0 → stepOf l r ≡ copyAt l first (17 + 2 * r) ∷ []
+  step-one : second ≡ 0 → stepOf l r ≡ copyAt l first (17 + 2 * r) ∷ []
   step-one z = step-is ∙ copies-one l first second (17 + 2 * r) (s .from) z
 
-  pub step-two : 1 ≤ second → stepOf l r ≡ copyAt l first (17 + 2 * r) ∷ copyAt l second (suc (17 + 2 * r)) ∷ []
+  step-two : 1 ≤ second → stepOf l r ≡ copyAt l first (17 + 2 * r) ∷ copyAt l second (suc (17 + 2 * r)) ∷ []
   step-two h = step-is ∙ copies-two l first second (17 + 2 * r) (s .from) h
+
+  -- what its first block holds, and its second
+  first-held : (k : Copy) → getElem? (stepOf l r) 0 ≡ some k → heldIn (bookOf l) (partOf (17 + 2 * r)) ≡ some (k .held)
+  first-held k e =
+      let z : 17 + 2 * r ≡ 17 + 2 * r + 0 = omega arith in
+      ap (λ (i : ℕ). heldIn (bookOf l) (partOf i)) z ∙ held-is (bookOf l) r 0 (stepOf l r) k (omega arith) step-there e
+
+  second-held : (k : Copy) → getElem? (stepOf l r) 1 ≡ some k → heldIn (bookOf l) (partOf (18 + 2 * r)) ≡ some (k .held)
+  second-held k e =
+      let z : 18 + 2 * r ≡ 17 + 2 * r + 1 = omega arith in
+      ap (λ (i : ℕ). heldIn (bookOf l) (partOf i)) z ∙ held-is (bookOf l) r 1 (stepOf l r) k (omega arith) step-there e
+
+  first-stands : (ks : List Copy) → stepOf l r ≡ copyAt l first (17 + 2 * r) ∷ ks → Stands (bookOf l) first (17 + 2 * r) (copyAt l first (17 + 2 * r) .held)
+  first-stands ks e =
+      record {
+        one = s .from;
+        there = omega (arith, segments-length l, ranged .to);
+        held = first-held (copyAt l first (17 + 2 * r)) (ap (λ (cs : List Copy). getElem? cs 0) e);
+      }
+
+  pub step-finds : Finds (bookOf l) first (17 + 2 * r) second (18 + 2 * r) (stepOf l r)
+  step-finds =
+      record {
+        none = λ z. let h = s .from in impossible (omega arith);
+        single = λ h z. record { content = copyAt l first (17 + 2 * r) .held; stands = first-stands [] (step-one z); are = step-one z };
+        both = λ h g.
+            let q : Copy = copyAt l second (suc (17 + 2 * r)) in
+            record {
+              content = copyAt l first (17 + 2 * r) .held;
+              content2 = q .held;
+              stands = first-stands (q ∷ []) (step-two g);
+              stands2 = record {
+                one = g;
+                there = omega (arith, segments-length l, ranged .other);
+                held = second-held q (ap (λ (cs : List Copy). getElem? cs 1) (step-two g));
+              };
+              are = step-two g;
+            };
+      }
+
+  pub step-numbers : numbers (stepOf l r) ≡ named first second
+  step-numbers = finds-numbers (bookOf l) first (17 + 2 * r) second (18 + 2 * r) (stepOf l r) (s .from) step-finds

@@ -1,20 +1,18 @@
 // Commit and undo: document 01, "Steps".
 ghost use mathlib.Core.Path.{_≡_};
 ghost use mathlib.Core.Bool.{true, false};
-ghost use mathlib.Core.List.{List, [], _∷_};
+ghost use mathlib.Core.List.{List};
 ghost use Prim.Native.Nat.{ℕ, _+_, _*_, _≤_, _<_};
 ghost use lib.ListN.{length, getD};
 ghost use Rattle.laws.proofs.Lists.{All};
-ghost use Rattle.codes.specs.Block.{Content};
 ghost use Rattle.blocks.specs.Block.{blockCount, bookLength};
 ghost use Rattle.steps.specs.Book.{Copy, closed, Book, put};
-ghost use Rattle.steps.specs.Calls.{withDrafts, stepsMost, committed, changed, stored, undone};
+ghost use Rattle.steps.specs.Calls.{withDrafts, stepsMost, committed, stored, undone};
 ghost use Rattle.layout.specs.Layout.{bytesOf, bookOf, stepOf};
 ghost use Rattle.layout.specs.Sound.{isSound, FineDraft, Sound};
 ghost use Rattle.layout.specs.Lies.{Lies};
-ghost use Rattle.layout.specs.Rule.{Does, paperReply};
-ghost use Rattle.history.specs.Changing.{differing, picked, changesIn, copy, Stands, FindsOne, FindsTwo, Finds, replaced, Leaves};
-ghost use Rattle.refusal.specs.Answer.{ok};
+ghost use Rattle.layout.specs.Rule.{Does, segmentsOf};
+ghost use Rattle.history.specs.Changing.{differing, picked, changesIn, Finds, replaced, Leaves};
 ghost use Rattle.moves.specs.Named.{named};
 ghost use Rattle.moves.specs.Undo.{withSegments};
 ghost use Rattle.history.specs.LastStep.{LastStep};
@@ -32,6 +30,39 @@ fn refused(number: usize) -> Reply
         number: number,
         place: 0,
     })
+}
+
+// ---- what commit and undo share
+// One or two segments hold what blocks `from` and `other` hold; second is 0 if there is one.
+fn put_blocks(book: &mut [u8], first: usize, from: usize, second: usize, other: usize)
+    requires { ⌜ (length (now book) ≡ bookLength) × (1 ≤ first) × (first ≤ 8) × (9 ≤ from) × (from < blockCount) × (second ≤ 8) × (9 ≤ other) × (other < blockCount) ⌝ }
+    ensures { λ _. ⌜ ((b : Book) → Lies (now (book .entry)) b → (cs : List Copy) → Finds b first from second other cs → Lies (now (book .exit)) (withSegments b (stored cs (b .segments)))) ⌝ }
+{
+    if second == 0 {
+        moves::put_segment(book, from, first);
+        return;
+    }
+    moves::put_segment(book, other, second);
+    moves::put_segment(book, from, first);
+}
+
+// The same, and the drafts that took one of them turn stale.
+fn replace(book: &mut [u8], first: usize, from: usize, second: usize, other: usize)
+    requires { ⌜ (length (now book) ≡ bookLength) × (1 ≤ first) × (first ≤ 8) × (9 ≤ from) × (from < blockCount) × (second ≤ 8) × (9 ≤ other) × (other < blockCount) ⌝ }
+    ensures { λ _. ⌜ ((b : Book) → Lies (now (book .entry)) b → (issue n : ℕ) → All (FineDraft issue n) (b .drafts) → (cs : List Copy) → Finds b first from second other cs → Lies (now (book .exit)) (replaced b cs)) ⌝ }
+{
+    put_blocks(book, first, from, second, other);
+    moves::mark_stale(book, first, second);
+}
+
+// One or two segments as they are answered, second 0 if none.
+fn segments(first: usize, second: usize) -> Changed
+    ensures { λ r. ⌜ segmentsOf r ≡ named first second ⌝ }
+{
+    if second == 0 {
+        return Changed::One(first);
+    }
+    Changed::Two(first, second)
 }
 
 // ---- commit
@@ -113,25 +144,6 @@ fn changes_in(book: &[u8], d: usize) -> Found
     pick(a, b, x, 7 + 2 * d, y, 8 + 2 * d)
 }
 
-// Segment s holds what block `from` holds, and drafts that took it turn stale.
-fn replace_one(book: &mut [u8], s: usize, from: usize)
-    requires { ⌜ (length (now book) ≡ bookLength) × (1 ≤ s) × (s ≤ 8) × (9 ≤ from) × (from < blockCount) ⌝ }
-    ensures { λ _. ⌜ ((b : Book) → Lies (now (book .entry)) b → (issue n : ℕ) → All (FineDraft issue n) (b .drafts) → (c : Content) → Stands b s from c → Lies (now (book .exit)) (replaced b (copy s c ∷ []))) ⌝ }
-{
-    moves::put_segment(book, from, s);
-    moves::mark_stale(book, s, 0);
-}
-
-// The same of two segments.
-fn replace_two(book: &mut [u8], s: usize, from: usize, t: usize, other: usize)
-    requires { ⌜ (length (now book) ≡ bookLength) × (1 ≤ s) × (s ≤ 8) × (9 ≤ from) × (from < blockCount) × (1 ≤ t) × (t ≤ 8) × (9 ≤ other) × (other < blockCount) ⌝ }
-    ensures { λ _. ⌜ ((b : Book) → Lies (now (book .entry)) b → (issue n : ℕ) → All (FineDraft issue n) (b .drafts) → (c e : Content) → Stands b s from c → Stands b t other e → Lies (now (book .exit)) (replaced b (copy s c ∷ copy t e ∷ []))) ⌝ }
-{
-    moves::put_segment(book, other, t);
-    moves::put_segment(book, from, s);
-    moves::mark_stale(book, s, t);
-}
-
 // Closes draft d, and stores the check of block 0.
 fn finish(book: &mut [u8], d: usize)
     requires { ⌜ (length (now book) ≡ bookLength) × (1 ≤ d) × (d ≤ 4) ⌝ }
@@ -141,21 +153,13 @@ fn finish(book: &mut [u8], d: usize)
     moves::seal_index(book);
 }
 
-fn commit_one(book: &mut [u8], d: usize, s: usize, from: usize)
-    requires { ⌜ (length (now book) ≡ bookLength) × (1 ≤ d) × (d ≤ 4) × (getD (now book) 24 0 ≤ stepsMost) × (1 ≤ s) × (s ≤ 8) × (9 ≤ from) × (from < 17) ⌝ }
-    ensures { λ _. ⌜ ((b : Book) → Lies (now (book .entry)) b → Sound b → (cs : List Copy) → FindsOne b s from cs → now (book .exit) ≡ bytesOf (committed b d cs)) ⌝ }
+// Commits draft d with one or two changed segments, second 0 if none.
+fn commit_changed(book: &mut [u8], d: usize, first: usize, from: usize, second: usize, other: usize)
+    requires { ⌜ (length (now book) ≡ bookLength) × (1 ≤ d) × (d ≤ 4) × (getD (now book) 24 0 ≤ stepsMost) × (1 ≤ first) × (first ≤ 8) × (9 ≤ from) × (from < 17) × (second ≤ 8) × (9 ≤ other) × (other < 17) ⌝ }
+    ensures { λ _. ⌜ ((b : Book) → Lies (now (book .entry)) b → Sound b → (cs : List Copy) → Finds b first from second other cs → now (book .exit) ≡ bytesOf (committed b d cs)) ⌝ }
 {
-    moves::push_step(book, s, 0);
-    replace_one(book, s, from);
-    finish(book, d);
-}
-
-fn commit_two(book: &mut [u8], d: usize, s: usize, from: usize, t: usize, other: usize)
-    requires { ⌜ (length (now book) ≡ bookLength) × (1 ≤ d) × (d ≤ 4) × (getD (now book) 24 0 ≤ stepsMost) × (1 ≤ s) × (s ≤ 8) × (9 ≤ from) × (from < 17) × (1 ≤ t) × (t ≤ 8) × (9 ≤ other) × (other < 17) ⌝ }
-    ensures { λ _. ⌜ ((b : Book) → Lies (now (book .entry)) b → Sound b → (cs : List Copy) → FindsTwo b s from t other cs → now (book .exit) ≡ bytesOf (committed b d cs)) ⌝ }
-{
-    moves::push_step(book, s, t);
-    replace_two(book, s, from, t, other);
+    moves::push_step(book, first, second);
+    replace(book, first, from, second, other);
     finish(book, d);
 }
 
@@ -175,12 +179,8 @@ fn commit_found(
         finish(book, d);
         return Changed::Nothing;
     }
-    if second < 1 {
-        commit_one(book, d, first, from);
-        return Changed::One(first);
-    }
-    commit_two(book, d, first, from, second, other);
-    Changed::Two(first, second)
+    commit_changed(book, d, first, from, second, other);
+    segments(first, second)
 }
 
 // Commits draft d of a sound book.
@@ -223,45 +223,13 @@ pub fn commit(book: &mut [u8], d: usize) -> Reply
     commit_sound(book, d)
 }
 
-// The answer of one or two segments, second 0 if none.
-fn segments(first: usize, second: usize) -> Reply
-    ensures { λ r. ⌜ paperReply r ≡ ok (changed (named first second)) ⌝ }
-{
-    if second == 0 {
-        return Reply::Segments(Changed::One(first));
-    }
-    Reply::Segments(Changed::Two(first, second))
-}
-
 // ---- undo
-// Puts the blocks of the newest step back. It is step r, counted from 0, and has one or two segments, second 0 if none.
-fn put_blocks(book: &mut [u8], r: usize, first: usize, second: usize)
-    requires { ⌜ (length (now book) ≡ bookLength) × LastStep (now book) r first second ⌝ }
-    ensures { λ _. ⌜ Lies (now (book .exit)) (withSegments (bookOf (now (book .entry))) (stored (stepOf (now (book .entry)) r) (bookOf (now (book .entry)) .segments))) ⌝ }
-{
-    if second == 0 {
-        moves::put_segment(book, 17 + 2 * r, first);
-        return;
-    }
-    moves::put_segment(book, 18 + 2 * r, second);
-    moves::put_segment(book, 17 + 2 * r, first);
-}
-
-// The same, and the drafts that took its segments turn stale.
-fn put_back(book: &mut [u8], r: usize, first: usize, second: usize)
-    requires { ⌜ (length (now book) ≡ bookLength) × LastStep (now book) r first second ⌝ }
-    ensures { λ _. ⌜ Lies (now (book .exit)) (replaced (bookOf (now (book .entry))) (stepOf (now (book .entry)) r)) ⌝ }
-{
-    put_blocks(book, r, first, second);
-    moves::mark_stale(book, first, second);
-}
-
-// Undoes the newest step.
+// Undoes the newest step: step r, counted from 0, of one or two segments, second 0 if none.
 fn undo_step(book: &mut [u8], r: usize, first: usize, second: usize)
     requires { ⌜ (length (now book) ≡ bookLength) × LastStep (now book) r first second ⌝ }
     ensures { λ _. ⌜ now (book .exit) ≡ bytesOf (undone (bookOf (now (book .entry))) (stepOf (now (book .entry)) r)) ⌝ }
 {
-    put_back(book, r, first, second);
+    replace(book, first, 17 + 2 * r, second, 18 + 2 * r);
     moves::pop_step(book);
     moves::seal_index(book);
 }
@@ -285,5 +253,6 @@ pub fn undo(book: &mut [u8]) -> Reply
     let first = blocks::size(book[32 + 2 * r]);
     let second = blocks::size(book[33 + 2 * r]);
     undo_step(book, r, first, second);
-    segments(first, second)
+    let changed = segments(first, second);
+    Reply::Segments(changed)
 }

@@ -1,5 +1,5 @@
 use borrow.Author.Needs.{needs}
-use Rattle.history.proofs.CommitStore.{leaves-none, leaves-one, leaves-two}
+use Rattle.history.proofs.CommitStore.{leaves-none, leaves-some}
 use Rattle.history.proofs.commit_found.Statement.{statement}
 use Rattle.history.proofs.commit_found.Tie as tie
 
@@ -12,23 +12,17 @@ same-length c = search needs
 returns : tie.Need-returns
 returns c = search (leaves-none, needs)
 
-commit-one-requires : tie.Need-commit-one-requires
-commit-one-requires c κs = search needs
+commit-changed-requires : tie.Need-commit-changed-requires
+commit-changed-requires c κs = search needs
+
+segments-requires : tie.Need-segments-requires
+segments-requires c κs = search needs
 
 same-length-2 : tie.Need-same-length-2
 same-length-2 c = search needs
 
 returns-2 : tie.Need-returns-2
-returns-2 c = search (leaves-one, needs)
-
-commit-two-requires : tie.Need-commit-two-requires
-commit-two-requires c κs = search needs
-
-same-length-3 : tie.Need-same-length-3
-same-length-3 c = search needs
-
-returns-3 : tie.Need-returns-3
-returns-3 c = search (leaves-two, needs)
+returns-2 c = search (leaves-some, needs)
 
 pub commit-found-spec : {M : Type 1} → statement M
 commit-found-spec =
@@ -37,9 +31,7 @@ commit-found-spec =
     finish-requires
     same-length
     returns
-    commit-one-requires
+    commit-changed-requires
+    segments-requires
     same-length-2
-    returns-2
-    commit-two-requires
-    same-length-3
-    returns-3)
+    returns-2)
