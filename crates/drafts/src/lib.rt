@@ -1,5 +1,5 @@
 // The calls that open, fill, read and drop a draft: document 01, "Steps". The changes of a copy stand in `edits`, commit and undo in `history`.
-// `admit`, `find_copy`, `refused` and `wide` are for the book's own calls, here and in `edits`; `find_copy` may be asked only what was admitted.
+// `admit`, `find_copy`, `refused` and `wide` are for the book's own crates; a public call has admitted what it asks `find_copy` for.
 ghost use mathlib.Core.Path.{_≡_};
 ghost use mathlib.Core.Bool.{true};
 ghost use Prim.Native.Nat.{_≤_};

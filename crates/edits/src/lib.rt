@@ -1,4 +1,4 @@
-// The changes of a draft's copy: document 01, "Steps".
+// The changes of a draft's copy: document 01, "Steps". `drafts` tells whether a draft may work on a segment, and finds its copy.
 ghost use mathlib.Core.Path.{_≡_};
 ghost use mathlib.Core.Bool.{true, false};
 ghost use mathlib.Core.Option.{some};
