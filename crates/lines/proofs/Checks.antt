@@ -9,9 +9,9 @@ use mathlib.Core.Bool.{Bool, true, false, cond, _&&_, _||_, not}
 use mathlib.Core.Option.{Option, none, some}
 use lib.ListN.{length, getD, drop, drop-of-length-le}
 use lib.Seq.{drop-cons, drop-drop}
-use lib.Dec.{ltb, leb, eqb}
-use borrow.Author.Tests.{le-ltb, lt-ltb, eq-eqb, ne-eqb, leb-true}
-use Rattle.laws.proofs.Tests.{by, and-left}
+use lib.Dec.{ltb, eqb}
+use borrow.Author.Tests.{le-ltb, lt-ltb, eq-eqb, ne-eqb}
+use Rattle.laws.proofs.Tests.{by, by-order}
 use Rattle.refusal.specs.Numbers.{wrongText}
 use Rattle.refusal.specs.Answer.{refusalFor, paperVerdict}
 use Rattle.refusal.specs.declared.Verdict.{Verdict}
@@ -20,7 +20,9 @@ use Rattle.lines.specs.Bytes.{between, word, begins}
 use Rattle.lines.specs.Lines.{pieces, bodyOf, linesAt, linesFrom, linesOf}
 use Rattle.lines.specs.Check.{allowed, badByte, longLine, lastEnds, unended, least, textFault, checkText}
 use Rattle.lines.specs.Spans.{ending}
-use Rattle.lines.proofs.Ends.{no-end, no-lf, end-case, endOf, nextOf, firstPiece, lines-step, lines-last, end-here, next-here, end-last, next-last, end-on, next-within, InLine, in-start, in-on}
+use Rattle.lines.specs.Printables.{printables}
+use Rattle.lines.proofs.Ends.{past-end, no-lf, end-case, endOf, nextOf, firstPiece, lines-step, lines-last, end-here, next-here, end-last, next-last, next-within, InLine, in-start, in-on}
+use Rattle.lines.proofs.Scans.{over, printable-is, stops}
 
 -- ---- "Allowed": what is printable, or stands at the front of a line's end
 allowed-tests : (p l c x y : Bool) → (p || l || c && (x || y)) ≡ (p || not (eqb (cond (l && true) 1 (cond (c && x) 2 (cond (c && y) 3 0))) 0))
@@ -148,96 +150,95 @@ fault-is : (s : List ℕ) (i : ℕ) → textFault s ≡ some i → (r : Verdict)
 unfolding checkText
 fault-is s i e r q = rw (e, q)
 
--- ---- the loop's invariant: i is in the line that starts at `start`, not past its 133rd byte, and each of the three answers from here is the one from the text's start
+-- ---- i is in the line that starts at `start`, and each of the three answers from here is the one from the text's start
 pub record Checks (s : List ℕ) (start i : ℕ) : Type 0 where
   pub line : InLine s start i
   pub high : i ≤ length s
-  pub short : i ≤ start + 132
   pub bad : badByte 0 s ≡ badByte i (drop i s)
   pub long : longLine (linesOf s) ≡ longLine (linesFrom start (drop start s))
   pub fin : lastFrom true s ≡ lastFrom (eqb start i) (drop i s)
 
 pub checks-start : (s : List ℕ) → Checks s 0 0
-checks-start s = record { line = in-start s 0; high = omega arith; short = omega arith; bad = refl; long = refl; fin = refl }
+checks-start s = record { line = in-start s 0; high = omega arith; bad = refl; long = refl; fin = refl }
 
--- what is printable ends no line
-printable-is : (s : List ℕ) (i : ℕ) → between 32 126 (getD s i 0) ≡ true → 0 ≡ ending (drop i s)
-printable-is s i y = no-end s i (getD s i 0) refl (omega (arith, leb-true 32 (getD s i 0) (and-left (leb 32 (getD s i 0)) (leb (getD s i 0) 126) y)))
+-- a printable byte
+checks-on : (s : List ℕ) (start i : ℕ) → i < length s → between 32 126 (getD s i 0) ≡ true → Checks s start i → Checks s start (i + 1)
+checks-on s start i h y v =
+    let low : start ≤ i = v .line .low in
+    let none-here : 0 ≡ ending (drop i s) = printable-is s i y in
+    record {
+      line = in-on s start i (v .line) h 0 none-here refl;
+      high = omega arith;
+      bad = v .bad ∙ bad-at s i h ∙ rw y;
+      long = v .long;
+      fin = v .fin ∙ last-at s i _ h ∙ rw (no-lf s i (sym none-here), ne-eqb start (i + 1) (omega arith));
+    }
 
-module _ (s : List ℕ) (start i : ℕ) (v : Checks s start i) where
-  module _ (h : i < length s) (t : Bool) (et : t ≡ between 32 126 (getD s i 0)) where
-    module _ (y : t ≡ true) where
-      no-end-here : 0 ≡ ending (drop i s)
-      no-end-here = printable-is s i (sym et ∙ y)
+-- the text's end: no byte was bad, and the last line ends exactly if none is begun
+module _ (s : List ℕ) (start i : ℕ) (v : Checks s start i) (h : length s ≤ i) where
+  bad-last : badByte 0 s ≡ none
+  unfolding badByte
+  bad-last = v .bad ∙ rw (drop-of-length-le s h)
 
-      -- the 133rd byte of a line
-      pub checks-long : i - start ≡ 132 → (r : Verdict) → r ≡ Refused (refusalFor wrongText i) → paperVerdict r ≡ checkText s
-      unfolding textFault
-      checks-long q =
-          let low : start ≤ i = v .line .low in
-          let is-i : start + 132 ≡ i = omega arith in
-          let far : start + 132 < endOf s start = omega (arith, v .line .ends, end-on s i h 0 no-end-here refl, end-ge s (i + 1)) in
-          let here : longLine (linesOf s) ≡ some i = v .long ∙ long-here s start (omega arith) far ∙ ap some is-i in
-          let end-later : From i (unended s) = from-less i (length s) (unended s) (omega arith) (unended-from s) in
-          fault-is s i
-          (ap (λ (o : Option ℕ). least (badByte 0 s) (least o (unended s))) here
-          ∙ ap (least (badByte 0 s)) (least-left i (unended s) end-later)
-          ∙ least-right i (badByte 0 s) (rw (v .bad) (bad-from i (drop i s))))
+  fin-last : lastEnds s ≡ eqb start i
+  unfolding lastFrom
+  fin-last = last-ends s ∙ v .fin ∙ rw (drop-of-length-le s h)
 
-      -- another byte of it
-      pub checks-on : (i - start ≡ 132 → ⊥) → Checks s start (i + 1)
-      checks-on n =
-          let low : start ≤ i = v .line .low in
-          record {
-            line = in-on s start i (v .line) h 0 no-end-here refl;
-            high = omega arith;
-            short = omega (arith, v .short);
-            bad = v .bad ∙ bad-at s i h ∙ rw (← et, y);
-            long = v .long;
-            fin = v .fin ∙ last-at s i _ h ∙ rw (no-lf s i (sym no-end-here), ne-eqb start (i + 1) (omega arith));
-          }
+pub checks-fine : (s : List ℕ) (start : ℕ) → Checks s start start → length s ≤ start → paperVerdict Accepted ≡ checkText s
+unfolding textFault least unended
+checks-fine s start v h = fine-is s (rw (bad-last s start start v h, v .long, long-past s start h, fin-last s start start v h, eq-eqb start start refl))
 
-    module _ (y : t ≡ false) (k : ℕ) (e : k ≡ ending (drop i s)) where
-      -- a byte that is not allowed
-      pub checks-bad : k ≡ 0 → (r : Verdict) → r ≡ Refused (refusalFor wrongText i) → paperVerdict r ≡ checkText s
-      unfolding textFault
-      checks-bad z =
-          let here : badByte 0 s ≡ some i = v .bad ∙ bad-at s i h ∙ rw (← et, y, ← e, z) in
-          fault-is s i (ap (λ (o : Option ℕ). least o (later s)) here ∙ least-left i (later s) (later-from s i start (omega arith) (v .short) (v .long)))
+-- ---- the line's printable bytes end at e
+module _ (s : List ℕ) (start : ℕ) (v : Checks s start start) (e : ℕ) (is : e ≡ start + printables (drop start s)) where
+  there : Checks s start e
+  there = rw is (over s (Checks s start) (checks-on s start) (printables (drop start s)) start (omega arith) v)
 
-      -- a line's end
-      pub checks-line : (k ≡ 0 → ⊥) → Checks s (i + k) (i + k)
-      checks-line n =
-          let here : nextOf s i ≡ i + k = next-here s i h k e n in
-          let ends : ending (drop i s) ≡ 0 → ⊥ = λ z. n (e ∙ z) in
-          record {
-            line = in-start s (i + k);
-            high = omega (arith, next-within s i (omega arith));
-            short = omega arith;
-            bad = v .bad ∙ bad-end i (drop i s) ends ∙ rw (← e, drop-drop);
-            long = v .long ∙ long-on s start (omega (arith, v .line .low)) (i + k) (v .line .goes ∙ here) (omega (arith, v .line .ends, end-here s i h k e n, v .short));
-            fin = v .fin ∙ last-end _ (drop i s) ends ∙ rw (← e, drop-drop, eq-eqb (i + k) (i + k) refl);
-          }
+  far : e ≤ endOf s start
+  far = omega (arith, there .line .ends, end-ge s e)
 
-  module _ (h : length s ≤ i) where
-    bad-last : badByte 0 s ≡ none
-    unfolding badByte
-    bad-last = v .bad ∙ rw (drop-of-length-le s h)
+  -- the 133rd byte of a line
+  pub checks-long : 132 < e - start → (r : Verdict) → r ≡ Refused (refusalFor wrongText (start + 132)) → paperVerdict r ≡ checkText s
+  unfolding textFault
+  checks-long q =
+      let high : e ≤ length s = there .high in
+      let here : longLine (linesOf s) ≡ some (start + 132) = there .long ∙ long-here s start (omega arith) (omega (arith, far)) in
+      let end-later : From (start + 132) (unended s) = from-less (start + 132) (length s) (unended s) (omega arith) (unended-from s) in
+      let bad-later : From (start + 132) (badByte 0 s) = from-less (start + 132) e (badByte 0 s) (omega arith) (rw (there .bad) (bad-from e (drop e s))) in
+      fault-is s (start + 132)
+      (ap (λ (o : Option ℕ). least (badByte 0 s) (least o (unended s))) here
+      ∙ ap (least (badByte 0 s)) (least-left (start + 132) (unended s) end-later)
+      ∙ least-right (start + 132) (badByte 0 s) bad-later)
 
-    fin-last : lastEnds s ≡ eqb start i
-    unfolding lastFrom
-    fin-last = last-ends s ∙ v .fin ∙ rw (drop-of-length-le s h)
+  module _ (short : e - start ≤ 132) (k : ℕ) (ek : k ≡ ending (drop e s)) where
+    -- a byte that is not allowed
+    bad-here : k ≡ 0 → e < length s → textFault s ≡ some e
+    unfolding textFault
+    bad-here z h =
+        let here : badByte 0 s ≡ some e = there .bad ∙ bad-at s e h ∙ rw (stops s start e is h, ← ek, z) in
+        ap (λ (o : Option ℕ). least o (later s)) here ∙ least-left e (later s) (later-from s e start (omega arith) (omega arith) (there .long))
 
-    -- the text's end
-    pub checks-fine : start ≡ i → paperVerdict Accepted ≡ checkText s
+    -- the text's end, within a line
+    open-here : start < length s → length s ≤ e → textFault s ≡ some e
     unfolding textFault least unended
-    checks-fine q = fine-is s (rw (bad-last, v .long, q, long-past s i h, fin-last, eq-eqb start i q))
+    open-here l h =
+        let high : e ≤ length s = there .high in
+        let all : e ≡ length s = omega arith in
+        let no-long : longLine (linesOf s) ≡ none = there .long ∙ long-on s start l e (there .line .goes ∙ next-last s e h) (omega (arith, there .line .ends, end-last s e h)) ∙ long-past s e h in
+        rw (bad-last s start e there h, no-long, fin-last s start e there h, ne-eqb start e (omega arith), all)
 
-    pub checks-open : (start ≡ i → ⊥) → (r : Verdict) → r ≡ Refused (refusalFor wrongText i) → paperVerdict r ≡ checkText s
-    unfolding textFault least unended
-    checks-open n =
-        let low : start ≤ i = v .line .low in
-        let high : i ≤ length s = v .high in
-        let all : i ≡ length s = omega arith in
-        let no-long : longLine (linesOf s) ≡ none = v .long ∙ long-on s start (omega arith) i (v .line .goes ∙ next-last s i h) (omega (arith, v .line .ends, end-last s i h, v .short)) ∙ long-past s i h in
-        fault-is s i (rw (bad-last, no-long, fin-last, ne-eqb start i n, all))
+    pub checks-wrong : start < length s → k ≡ 0 → (r : Verdict) → r ≡ Refused (refusalFor wrongText e) → paperVerdict r ≡ checkText s
+    checks-wrong l z = fault-is s e (by-order e (length s) (bad-here z) (open-here l))
+
+    -- a line's end
+    pub checks-line : (k ≡ 0 → ⊥) → Checks s (e + k) (e + k)
+    checks-line n =
+        let h : e < length s = by-order e (length s) (λ l. l) (λ l. absurd (n (ek ∙ sym (past-end s e l)))) in
+        let here : nextOf s e ≡ e + k = next-here s e h k ek n in
+        let ends : ending (drop e s) ≡ 0 → ⊥ = λ z. n (ek ∙ z) in
+        record {
+          line = in-start s (e + k);
+          high = omega (arith, next-within s e (omega arith));
+          bad = there .bad ∙ bad-end e (drop e s) ends ∙ rw (← ek, drop-drop);
+          long = there .long ∙ long-on s start (omega (arith, there .line .low)) (e + k) (there .line .goes ∙ here) (omega (arith, there .line .ends, end-here s e h k ek n));
+          fin = there .fin ∙ last-end _ (drop e s) ends ∙ rw (← ek, drop-drop, eq-eqb (e + k) (e + k) refl);
+        }

@@ -1,4 +1,5 @@
 pub mod Strings
 pub mod Ends
+pub mod Scans
 pub mod Tests
 pub mod Checks

@@ -1,13 +1,15 @@
 // The lines of a text, by places: document 01, "Text and lines".
 ghost use mathlib.Core.Path.{_≡_};
-ghost use Prim.Native.Nat.{_≤_};
-ghost use lib.ListN.{getD, drop};
+ghost use Prim.Native.Nat.{_+_, _-_, _≤_};
+ghost use lib.ListN.{length, getD, drop};
+ghost use lib.Dec.{leb};
 ghost use Rattle.refusal.specs.Numbers.{wrongText};
 ghost use Rattle.refusal.specs.Answer.{refusalFor, paperVerdict};
 ghost use Rattle.lines.specs.Bytes.{between, capital, digit, literally, begins};
 ghost use Rattle.lines.specs.Lines.{blank, isEnd, opens};
 ghost use Rattle.lines.specs.Check.{checkText};
 ghost use Rattle.lines.specs.Spans.{spanAt, part, ending};
+ghost use Rattle.lines.specs.Printables.{printables, Skipped};
 use refusal::Refusal;
 use refusal::Verdict;
 
@@ -87,26 +89,72 @@ pub fn ending(text: &[u8], i: usize) -> usize
     0
 }
 
+// Whether the w bytes from i on are printable. None of them ends the loop, so that all of them are looked at together.
+fn all_printable(text: &[u8], i: usize, w: usize) -> bool
+    requires { ⌜ i + w ≤ length (now text) ⌝ }
+    ensures { λ r. ⌜ r ≡ leb w (printables (drop i (now (text .entry)))) ⌝ }
+{
+    let mut all = true;
+    let mut k: usize = 0;
+    while k < w {
+        all = all & printable(text[i + k]);
+        k += 1;
+    }
+    all
+}
+
+// Moves on from `at` by w while w whole bytes from here on are printable.
+fn skip(text: &[u8], at: usize, w: usize) -> usize
+    requires within { ⌜ at ≤ length (now text) ⌝ }
+    requires wide { ⌜ 1 ≤ w ⌝ }
+    ensures { λ r. ⌜ Skipped (now (text .entry)) at w r ⌝ }
+{
+    let n = text.len();
+    let mut i = at;
+    while w <= n - i {
+        if all_printable(text, i, w) {
+            i += w;
+        } else {
+            return i;
+        }
+    }
+    i
+}
+
+// The first place from `at` on whose byte is not printable, or the text's end; `at` itself past that.
+fn printable_end(text: &[u8], at: usize) -> usize
+    ensures is { λ r. ⌜ r ≡ at + printables (drop at (now (text .entry))) ⌝ }
+    ensures most { λ r. ⌜ r ≤ at + (length (now (text .entry)) - at) ⌝ }
+{
+    if text.len() < at {
+        return at;
+    }
+    let i = skip(text, at, 16);
+    let j = skip(text, i, 4);
+    skip(text, j, 1)
+}
+
 // The line that starts at `at`; past the text's last line an empty one.
 pub fn find_line(text: &[u8], at: usize) -> Span
     ensures { λ r. ⌜ r ≡ spanAt (now (text .entry)) at ⌝ }
 {
-    let mut i = at;
-    while i < text.len() {
-        let k = ending(text, i);
+    let mut end = printable_end(text, at);
+    while end < text.len() {
+        let k = ending(text, end);
         if k != 0 {
             return Span {
                 start: at,
-                end: i,
-                next: i + k,
+                end,
+                next: end + k,
             };
         }
-        i += 1;
+        // A byte that is not printable and ends no line: the line goes on behind it.
+        end = printable_end(text, end + 1);
     }
     Span {
         start: at,
-        end: i,
-        next: i,
+        end,
+        next: end,
     }
 }
 
@@ -175,29 +223,22 @@ fn wrong(place: usize) -> Verdict
     })
 }
 
-// Refusal 2, in one pass: each byte of the text is looked at once, a line's end as a whole.
+// Refusal 2, line by line: at most 132 printable bytes, and behind them the line's end.
 pub fn check_text(text: &[u8]) -> Verdict
     ensures { λ r. ⌜ paperVerdict r ≡ checkText (now (text .entry)) ⌝ }
 {
+    let n = text.len();
     let mut start: usize = 0;
-    let mut i: usize = 0;
-    while i < text.len() {
-        if printable(text[i]) {
-            if i - start == 132 {
-                return wrong(i);
-            }
-            i += 1;
-        } else {
-            let k = ending(text, i);
-            if k == 0 {
-                return wrong(i);
-            }
-            i += k;
-            start = i;
+    while start < n {
+        let end = printable_end(text, start);
+        if 132 < end - start {
+            return wrong(start + 132);
         }
+        let k = ending(text, end);
+        if k == 0 {
+            return wrong(end);
+        }
+        start = end + k;
     }
-    if start == i {
-        return Verdict::Accepted;
-    }
-    wrong(i)
+    Verdict::Accepted
 }

@@ -1,0 +1,129 @@
+-- Printable bytes at the front of a text, and what holds behind them. Assumes nothing.
+use Prim.Native.Nat.{ℕ, zero, suc, _+_, _-_, _≤_, _<_, suc-le-suc}
+use native.Mathlib.Numerals.{add-one}
+use native.Mathlib.Omega.{arith}
+use mathlib.Core.Path.{_≡_, refl, sym, _∙_}
+use mathlib.Core.List.{List, [], _∷_}
+use mathlib.Core.Bool.{Bool, true, false, cond, _&&_}
+use lib.ListN.{length, getD, drop, length-drop}
+use lib.Seq.{drop-cons, drop-drop}
+use lib.Dec.{leb}
+use borrow.Author.Tests.{leb-true, leb-false, le-leb, lt-leb}
+use Rattle.laws.proofs.Tests.{by, by-order, impossible, and-left}
+use Rattle.lines.specs.Bytes.{between}
+use Rattle.lines.specs.Spans.{ending}
+use Rattle.lines.specs.Printables.{printables, Skipped}
+use Rattle.lines.proofs.Ends.{no-end, InLine, in-start, in-on}
+
+-- ---- at the front
+most : (s : List ℕ) → printables s ≤ length s
+unfolding printables
+most [] = omega arith
+most (b ∷ s) = by (between 32 126 b) (λ p. rw p (suc-le-suc (most s))) (λ p. rw p (omega arith))
+
+behind : (k : ℕ) (s : List ℕ) → k ≤ printables s → printables s ≡ k + printables (drop k s)
+unfolding printables
+behind zero s h = omega arith
+behind (suc k) [] h = impossible (omega arith)
+behind (suc k) (b ∷ s) h =
+    by (between 32 126 b) (λ p. let h′ : suc k ≤ suc (printables s) = rw p at h in rw p (omega (arith, behind k s (omega arith))))
+    λ p. let h′ : suc k ≤ 0 = rw p at h in impossible (omega arith)
+
+-- ---- at a place
+module _ (s : List ℕ) (i : ℕ) where
+  pub rest : printables (drop i s) ≤ length s - i
+  rest = omega (arith, most (drop i s), length-drop i s)
+
+  at-byte : i < length s → printables (drop i s) ≡ cond (between 32 126 (getD s i 0)) (suc (printables (drop (i + 1) s))) 0
+  unfolding printables
+  at-byte h = rw (add-one, drop-cons s i 0 h)
+
+  passed : (k : ℕ) → k ≤ printables (drop i s) → printables (drop i s) ≡ k + printables (drop (i + k) s)
+  passed k h = rw (← drop-drop k i s) (behind k (drop i s) h)
+
+-- ---- whether w bytes are printable: k of them are seen
+pub record Seen (s : List ℕ) (i w : ℕ) (all : Bool) (k : ℕ) : Type 0 where
+  pub low : k ≤ w
+  pub is : all ≡ leb k (printables (drop i s))
+
+pub seen-start : (s : List ℕ) (i w : ℕ) → Seen s i w true 0
+seen-start s i w = record { low = omega arith; is = sym (le-leb 0 (printables (drop i s)) (omega arith)) }
+
+module _ (s : List ℕ) (i w : ℕ) (all : Bool) (k : ℕ) (v : Seen s i w all k) where
+  -- one more is printable if all before it are and it is
+  more : i + k < length s → leb (k + 1) (printables (drop i s)) ≡ (leb k (printables (drop i s)) && between 32 126 (getD s (i + k) 0))
+  more h =
+      by-order (printables (drop i s)) k
+      (λ l. rw (lt-leb k (printables (drop i s)) l, lt-leb (k + 1) (printables (drop i s)) (omega arith)))
+      λ l. let e : printables (drop i s) ≡ k + printables (drop (i + k) s) = passed s i k l in
+      by (between 32 126 (getD s (i + k) 0))
+      (λ p. rw (le-leb k (printables (drop i s)) l, p, le-leb (k + 1) (printables (drop i s)) (omega (arith, rw p at (at-byte s (i + k) h)))))
+      λ p. rw (le-leb k (printables (drop i s)) l, p, lt-leb (k + 1) (printables (drop i s)) (omega (arith, rw p at (at-byte s (i + k) h))))
+
+  pub seen-on : k < w → i + w ≤ length s → (t : Bool) → t ≡ between 32 126 (getD s (i + k) 0) → Seen s i w (all && t) (k + 1)
+  seen-on l h t e = record { low = omega arith; is = rw (more (omega arith), e, v .is) }
+
+  pub seen-done : w ≤ k → all ≡ leb w (printables (drop i s))
+  seen-done h = let e : k ≡ w = omega (arith, v .low) in rw (← e) (v .is)
+
+-- ---- the printable bytes from i on end where those from `at` on do
+pub record Skips (s : List ℕ) (at i : ℕ) : Type 0 where
+  pub within : i ≤ length s
+  pub same : i + printables (drop i s) ≡ at + printables (drop at s)
+
+pub skips-start : (s : List ℕ) (at : ℕ) → at ≤ length s → Skips s at at
+skips-start s at h = record { within = h; same = refl }
+
+module _ (s : List ℕ) (at i : ℕ) (v : Skips s at i) (w : ℕ) where
+  skipped : printables (drop i s) < w → Skipped s at w i
+  skipped h = record { within = v .within; same = v .same; few = h }
+
+  -- fewer than w bytes are left
+  pub skips-short : length s - i < w → Skipped s at w i
+  skips-short h = skipped (omega (arith, rest s i))
+
+  module _ (t : Bool) (e : t ≡ leb w (printables (drop i s))) where
+    -- the next w are printable
+    pub skips-on : t ≡ true → Skips s at (i + w)
+    skips-on y =
+        let h : w ≤ printables (drop i s) = leb-true w (printables (drop i s)) (sym e ∙ y) in
+        record { within = omega (arith, v .within, rest s i); same = omega (arith, v .same, passed s i w h) }
+
+    -- one of the next w is not printable
+    pub skips-no : t ≡ false → Skipped s at w i
+    skips-no n = skipped (leb-false w (printables (drop i s)) (sym e ∙ n))
+
+-- ---- behind the printable bytes: what holds before them, and goes on over each
+pub over : (s : List ℕ) (P : ℕ → Type 0) → ((j : ℕ) → j < length s → between 32 126 (getD s j 0) ≡ true → P j → P (j + 1))
+    → (n i : ℕ) → n ≤ printables (drop i s) → P i → P (i + n)
+over s P f zero i h p = let e : i + 0 ≡ i = omega arith in rw e p
+over s P f (suc n) i h p =
+    by-order i (length s)
+    (λ l. by (between 32 126 (getD s i 0))
+    (λ q. let b : printables (drop i s) ≡ suc (printables (drop (i + 1) s)) = rw q at (at-byte s i l) in
+    let e : i + suc n ≡ i + 1 + n = omega arith in
+    rw e (over s P f n (i + 1) (omega arith) (f i l q p)))
+    λ q. impossible (omega (arith, rw q at (at-byte s i l))))
+    λ l. impossible (omega (arith, rest s i))
+
+-- what is printable ends no line
+pub printable-is : (s : List ℕ) (i : ℕ) → between 32 126 (getD s i 0) ≡ true → 0 ≡ ending (drop i s)
+printable-is s i y = no-end s i (getD s i 0) refl (omega (arith, leb-true 32 (getD s i 0) (and-left (leb 32 (getD s i 0)) (leb (getD s i 0) 126) y)))
+
+module _ (s : List ℕ) (i e : ℕ) (is : e ≡ i + printables (drop i s)) where
+  pub stops : e < length s → between 32 126 (getD s e 0) ≡ false
+  stops h =
+      let z : printables (drop i s) ≡ printables (drop i s) + printables (drop e s) = rw is (passed s i (printables (drop i s)) (omega arith)) in
+      by (between 32 126 (getD s e 0)) (λ p. impossible (omega (arith, rw p at (at-byte s e h)))) (λ p. p)
+
+  -- a line goes on behind its printable bytes
+  pub in-over : (at : ℕ) → InLine s at i → InLine s at e
+  in-over at v = rw is (over s (InLine s at) (λ j l p v. in-on s at j v l 0 (printable-is s j p) refl) (printables (drop i s)) i (omega arith) v)
+
+pub in-first : (s : List ℕ) (at e : ℕ) → e ≡ at + printables (drop at s) → InLine s at e
+in-first s at e is = in-over s at e is at (in-start s at)
+
+-- and behind a byte that ends no line
+pub in-next : (s : List ℕ) (at i : ℕ) → InLine s at i → i < length s → (k : ℕ) → k ≡ ending (drop i s) → k ≡ 0 → (e : ℕ) → e ≡ i + 1 + printables (drop (i + 1) s)
+    → InLine s at e
+in-next s at i v h k ek z e is = in-over s (i + 1) e is at (in-on s at i v h k ek z)
