@@ -79,7 +79,7 @@ module _ (s : List ℕ) (at i : ℕ) (v : Skips s at i) (w : ℕ) where
   skipped h = record { within = v .within; same = v .same; few = h }
 
   -- fewer than w bytes are left
-  pub skips-short : length s - i < w → Skipped s at w i
+  pub skips-short : length s < i + w → Skipped s at w i
   skips-short h = skipped (omega (arith, rest s i))
 
   module _ (t : Bool) (e : t ≡ leb w (printables (drop i s))) where

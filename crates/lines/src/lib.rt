@@ -106,12 +106,12 @@ fn all_printable(text: &[u8], i: usize, w: usize) -> bool
 // Moves on from `at` by w while w whole bytes from here on are printable.
 fn skip(text: &[u8], at: usize, w: usize) -> usize
     requires within { ⌜ at ≤ length (now text) ⌝ }
-    requires wide { ⌜ 1 ≤ w ⌝ }
+    requires wide { ⌜ (1 ≤ w) × (w ≤ 16) ⌝ }
     ensures { λ r. ⌜ Skipped (now (text .entry)) at w r ⌝ }
 {
     let n = text.len();
     let mut i = at;
-    while w <= n - i {
+    while i + w <= n {
         if all_printable(text, i, w) {
             i += w;
         } else {
