@@ -11,9 +11,10 @@ use lib.Dec.{leb}
 use borrow.Author.Tests.{leb-true, leb-false, le-leb, lt-leb}
 use Rattle.laws.proofs.Tests.{by, by-order, impossible, and-left}
 use Rattle.lines.specs.Bytes.{between}
-use Rattle.lines.specs.Spans.{ending}
+use Rattle.lines.specs.Spans.{ending, spanAt}
 use Rattle.lines.specs.Printables.{printables, Skipped}
-use Rattle.lines.proofs.Ends.{no-end, InLine, in-start, in-on}
+use Rattle.lines.specs.declared.Span.{Span}
+use Rattle.lines.proofs.Ends.{no-end, InLine, in-start, in-on, in-here, in-last}
 
 -- ---- at the front
 most : (s : List ℕ) → printables s ≤ length s
@@ -120,10 +121,25 @@ module _ (s : List ℕ) (i e : ℕ) (is : e ≡ i + printables (drop i s)) where
   pub in-over : (at : ℕ) → InLine s at i → InLine s at e
   in-over at v = rw is (over s (InLine s at) (λ j l p v. in-on s at j v l 0 (printable-is s j p) refl) (printables (drop i s)) i (omega arith) v)
 
-pub in-first : (s : List ℕ) (at e : ℕ) → e ≡ at + printables (drop at s) → InLine s at e
-in-first s at e is = in-over s at e is at (in-start s at)
+-- ---- a search for a line's end, over printable bytes at once: i stands in the line that starts at `at`
+pub record Inside (s : List ℕ) (at i : ℕ) : Type 0 where
+  pub within : i ≤ length s
+  pub line : InLine s at i
 
--- and behind a byte that ends no line
-pub in-next : (s : List ℕ) (at i : ℕ) → InLine s at i → i < length s → (k : ℕ) → k ≡ ending (drop i s) → k ≡ 0 → (e : ℕ) → e ≡ i + 1 + printables (drop (i + 1) s)
-    → InLine s at e
-in-next s at i v h k ek z e is = in-over s (i + 1) e is at (in-on s at i v h k ek z)
+pub past-last : (s : List ℕ) (at : ℕ) → length s < at → (r : Span) → r ≡ record { start = at; end = at; next = at } → r ≡ spanAt s at
+past-last s at h r q = q ∙ in-last s at at (in-start s at) (omega arith)
+
+pub inside-start : (s : List ℕ) (at : ℕ) → at ≤ length s → Inside s at at
+inside-start s at h = record { within = h; line = in-start s at }
+
+module _ (s : List ℕ) (at i : ℕ) (v : Inside s at i) (e : ℕ) (is : e ≡ i + printables (drop i s)) where
+  pub inside-last : length s ≤ e → (r : Span) → r ≡ record { start = at; end = e; next = e } → r ≡ spanAt s at
+  inside-last h r q = q ∙ in-last s at e (in-over s i e is at (v .line)) h
+
+  module _ (h : e < length s) (k : ℕ) (ek : k ≡ ending (drop e s)) where
+    pub inside-here : (k ≡ 0 → ⊥) → record { start = at; end = e; next = e + k } ≡ spanAt s at
+    inside-here n = in-here s at e (in-over s i e is at (v .line)) h k ek n
+
+    -- a byte that is not printable and ends no line
+    pub inside-next : k ≡ 0 → Inside s at (e + 1)
+    inside-next z = record { within = omega arith; line = in-on s at e (in-over s i e is at (v .line)) h k ek z }

@@ -121,25 +121,41 @@ fn skip(text: &[u8], at: usize, w: usize) -> usize
     i
 }
 
-// The first place from `at` on whose byte is not printable, or the text's end; `at` itself past that.
+// The first place from `at` on whose byte is not printable, or the text's end.
 fn printable_end(text: &[u8], at: usize) -> usize
+    requires { ⌜ at ≤ length (now text) ⌝ }
     ensures is { λ r. ⌜ r ≡ at + printables (drop at (now (text .entry))) ⌝ }
-    ensures most { λ r. ⌜ r ≤ at + (length (now (text .entry)) - at) ⌝ }
+    ensures most { λ r. ⌜ r ≤ length (now (text .entry)) ⌝ }
 {
-    if text.len() < at {
-        return at;
-    }
     let i = skip(text, at, 16);
     let j = skip(text, i, 4);
     skip(text, j, 1)
+}
+
+// A line that nothing ends: the next one starts where its bytes end.
+fn unended(start: usize, end: usize) -> Span
+    ensures { λ r. ⌜ r ≡ record { start = start; end = end; next = end } ⌝ }
+{
+    Span {
+        start,
+        end,
+        next: end,
+    }
 }
 
 // The line that starts at `at`; past the text's last line an empty one.
 pub fn find_line(text: &[u8], at: usize) -> Span
     ensures { λ r. ⌜ r ≡ spanAt (now (text .entry)) at ⌝ }
 {
-    let mut end = printable_end(text, at);
-    while end < text.len() {
+    if text.len() < at {
+        return unended(at, at);
+    }
+    let mut from = at;
+    loop {
+        let end = printable_end(text, from);
+        if text.len() <= end {
+            return unended(at, end);
+        }
         let k = ending(text, end);
         if k != 0 {
             return Span {
@@ -149,12 +165,7 @@ pub fn find_line(text: &[u8], at: usize) -> Span
             };
         }
         // A byte that is not printable and ends no line: the line goes on behind it.
-        end = printable_end(text, end + 1);
-    }
-    Span {
-        start: at,
-        end,
-        next: end,
+        from = end + 1;
     }
 }
 

@@ -1,16 +1,15 @@
 use borrow.Author.Needs.{needs}
 use Prim.Native.Nat.{_-_}
 use lib.ListN.{length}
-use Rattle.lines.proofs.Ends.{InLine, in-here, in-last}
-use Rattle.lines.proofs.Scans.{in-first, in-next}
+use Rattle.lines.proofs.Scans.{Inside, past-last, inside-start, inside-next, inside-here, inside-last}
 use Rattle.lines.proofs.find_line.Statement.{statement}
 use Rattle.lines.proofs.find_line.Tie as tie
 
 abbrev Inv-loop : tie.InvT-loop
-Inv-loop text at end₀ end = InLine text at end
+Inv-loop text at from₀ from = Inside text at from
 
 abbrev μ-loop : tie.MeasureT-loop
-μ-loop text at end₀ end = length text - end
+μ-loop text at from₀ from = length text - from
 
 pub find-line-spec : {M : Type 1} → statement M
 find-line-spec =
@@ -19,12 +18,14 @@ find-line-spec =
     Inv-loop
     μ-loop
     (λ c κs. search needs)
-    (λ c. search (in-first, needs))
+    (λ c. search (past-last, needs))
+    (λ c. search (inside-start, needs))
+    (λ c κs. search needs)
+    (λ c κs. search needs)
+    (λ c. search (inside-last, needs))
     (λ c κs. search needs)
     (λ c. search needs)
-    (λ c. search (in-here, needs))
+    (λ c. search (inside-here, needs))
     (λ c. search needs)
-    (λ c κs. search needs)
     (λ c. search needs)
-    (λ c. search (in-next, needs))
-    (λ c. search (in-last, needs)))
+    (λ c. search (inside-next, needs)))
