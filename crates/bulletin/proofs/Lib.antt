@@ -1,4 +1,5 @@
 pub mod Seeking
+pub mod Keeping
 pub mod Stepping
 pub mod Fronts
 pub mod Tops

@@ -4,7 +4,7 @@ use native.Mathlib.Omega.{arith}
 use mathlib.Core.Path.{_≡_, refl, sym, ap, _∙_}
 use mathlib.Core.List.{List, [], _∷_}
 use lib.ListN.{length, take}
-use Rattle.laws.proofs.Tests.{impossible}
+use Rattle.laws.proofs.Tests.{impossible, apart}
 use Rattle.refusal.specs.Numbers.{noSegment}
 use Rattle.refusal.specs.Answer.{Answer, ok, no, refusalFor, andThen, paperRefusal, paperVerdict}
 use Rattle.refusal.specs.declared.Refusal.{Refusal}
@@ -23,6 +23,7 @@ use Rattle.bulletin.specs.Bulletin.{readBulletin}
 use Rattle.bulletin.specs.Seen.{seenOf, seenFrom, listOf, Sized, ended, paperListed}
 use Rattle.bulletin.specs.Front.{paperStormed, paperStart, checked, Above, topOf, paperTopped}
 use Rattle.bulletin.specs.Report.{reported, reportOf, paperBulletin, someSeen, listedOf, headOf, belowOf}
+use Rattle.bulletin.specs.Kept.{keptFrom, keptUnder}
 use Rattle.bulletin.specs.declared.Segment.{Segment}
 use Rattle.bulletin.specs.declared.Ending.{Ending}
 use Rattle.bulletin.specs.declared.Ending.the-variants as ending
@@ -161,3 +162,28 @@ module _ (s : List ℕ) (year month : ℕ) (v : Verdict) (ev : paperVerdict v �
     pub read-whole : (t : Top) → x ≡ topped.Right t → (b : Bulletin) → paperBulletin b ≡ belowOf s t → paperBulletin b ≡ reported (readBulletin s year month)
     unfolding andThen
     read-whole t z b e = e ∙ sym (below-seen s t) ∙ sym (ap reported (topped-is ∙ ap (λ (k : Topped). andThen (paperTopped s k) (rest s)) z))
+
+-- ---- the issue that the places are kept under is the bulletin's
+rest-issue : (a : Above) (b : rule.Bulletin) (x : Answer Storm) (y : Answer (List segments.Segment))
+    → andThen x (λ storm. andThen y (λ gs. ok (record { heading = a .heading; identifier = a .identifier; issue = a .issue; storm = storm; segments = gs }))) ≡ ok b
+    → a .issue ≡ b .issue
+unfolding andThen
+rest-issue a b (ok storm) (ok gs) e =
+    let p : record { heading = a .heading; identifier = a .identifier; issue = a .issue; storm = storm; segments = gs } ≡ b = cc in
+    λ i. p i .issue
+rest-issue a b (ok storm) (no number place) e = apart cc
+rest-issue a b (no number place) y e = apart cc
+
+rest-of : (s : List ℕ) (a : Above) (b : rule.Bulletin) → rest s a ≡ ok b → a .issue ≡ b .issue
+rest-of s a b e = rest-issue a b _ _ e
+
+under-issue : (s : List ℕ) (c : Answer Unit) (x : Answer Above) (b : rule.Bulletin) → andThen c (λ _. andThen x (rest s)) ≡ ok b → (gs : List Segment) (ks : List ℕ)
+    → keptUnder s x gs ks ≡ keptFrom s (b .issue) 0 gs ks
+unfolding andThen
+under-issue s (ok u) (ok a) b e gs ks = ap (λ (issue : ℕ). keptFrom s issue 0 gs ks) (rest-of s a b e)
+under-issue s (ok u) (no number place) b e gs ks = apart cc
+under-issue s (no number place) x b e gs ks = apart cc
+
+pub kept-accepted : (s : List ℕ) (year month : ℕ) (b : rule.Bulletin) → readBulletin s year month ≡ ok b → (gs : List Segment) (ks : List ℕ)
+    → keptUnder s (topOf s year month) gs ks ≡ keptFrom s (b .issue) 0 gs ks
+kept-accepted s year month b e gs ks = under-issue s (checked s year month) (topOf s year month) b (sym (order s year month) ∙ e) gs ks

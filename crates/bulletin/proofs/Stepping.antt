@@ -1,5 +1,6 @@
 -- One step of the reader of segments: the segments from here are this one and those after it. Assumes nothing.
-use Prim.Native.Nat.{ℕ, zero, suc, _+_, _-_, _≤_, _<_}
+use Prim.Native.Nat.{ℕ, zero, suc, _+_, _-_, _*_, _≤_, _<_}
+use native.Mathlib.Nat.{zero-add}
 use native.Mathlib.Numerals.{add-one}
 use native.Mathlib.Omega.{arith}
 use mathlib.Core.Path.{_≡_, refl, sym, ap, _∙_}
@@ -22,6 +23,7 @@ use Rattle.bulletin.specs.Search.{fromFirst, linesOn, foundLines, Inside
 use Rattle.bulletin.specs.Segments as segments
 use Rattle.bulletin.specs.Segments.{segmentsFrom, opened, ended, pastBlock}
 use Rattle.bulletin.specs.Seen.{seenOf, seenFrom, joined, then, Stepped, paperListed}
+use Rattle.bulletin.specs.Kept.{keptBy, keptFrom}
 use Rattle.bulletin.specs.declared.Found.{Found}
 use Rattle.bulletin.specs.declared.Found.the-variants as found
 use Rattle.bulletin.specs.declared.Segment.{Segment}
@@ -29,6 +31,7 @@ use Rattle.bulletin.specs.declared.Next.{Next}
 use Rattle.bulletin.specs.declared.Next.the-variants as next
 use Rattle.bulletin.specs.declared.Ending.the-variants as ending
 use Rattle.bulletin.proofs.Seeking.{next-of}
+use Rattle.bulletin.proofs.Keeping.{kept-length, kept-more}
 
 module _ (s : List ℕ) (issue left from : ℕ) (f : Found) (ef : foundLines s f ≡ fromFirst opens (linesOn s from)) where
   -- no line opens a segment
@@ -112,37 +115,56 @@ joined-more : (gs : List Segment) (g : Segment) (x : Answer (List Segment)) → 
 joined-more gs g (ok hs) = ap ok (sym (append-assoc gs (g ∷ []) hs))
 joined-more gs g (no number place) = refl
 
--- the first `count` are read, and the others are those from `at` on
-pub record Listing (s : List ℕ) (issue from : ℕ) (held : List Segment) (count at : ℕ) : Type 0 where
+-- the first `count` are read and their places kept, and the others are those from `at` on
+pub record Listing (s : List ℕ) (issue from : ℕ) (ks₀ ks : List ℕ) (held : List Segment) (count at : ℕ) : Type 0 where
   pub long : length held ≡ 8
   pub few : count ≤ 8
   pub same : seenFrom 8 s issue from ≡ joined (take count held) (seenFrom (8 - count) s issue at)
+  pub kept : ks ≡ keptFrom s issue 0 (take count held) ks₀
 
-pub listing-start : (s : List ℕ) (issue from : ℕ) (held : List Segment) → length held ≡ 8 → Listing s issue from held 0 from
-listing-start s issue from held h = record { long = h; few = omega arith; same = sym (joined-none (seenFrom 8 s issue from)) }
+pub listing-start : (s : List ℕ) (issue from : ℕ) (ks : List ℕ) (held : List Segment) → length held ≡ 8 → Listing s issue from ks ks held 0 from
+unfolding keptFrom
+listing-start s issue from ks held h = record { long = h; few = omega arith; same = sym (joined-none (seenFrom 8 s issue from)); kept = refl }
 
-module _ (s : List ℕ) (issue from : ℕ) (held : List Segment) (count at : ℕ) (v : Listing s issue from held count at) (r : Next) (e : Stepped s issue (8 - count) at r) where
-  listed : seenFrom 8 s issue from ≡ joined (take count held) (then s issue (8 - count - 1) r)
-  listed = v .same ∙ ap (joined (take count held)) (e .same)
+module _ (s : List ℕ) (issue from : ℕ) (ks₀ ks : List ℕ) (held : List Segment) (count at : ℕ) (v : Listing s issue from ks₀ ks held count at) where
+  pub listing-size : (d : List ℕ) → length d ≡ length ks → length d ≡ length ks₀
+  listing-size d h = h ∙ ap (λ (l : List ℕ). length l) (v .kept) ∙ kept-length s issue 0 (take count held) ks₀
 
-  pub listing-end : r ≡ next.Nothing → paperListed (record { ending = ending.Whole; segments = record { held = held; count = count } }) ≡ seenFrom 8 s issue from
-  listing-end q = sym (listed ∙ rw (q, append-nil (take count held)))
+  -- where the list ends, what was kept before is kept
+  module _ (r : Next) (d : List ℕ) (k : d ≡ keptBy s issue (120 * count) r ks) where
+    pub kept-end : r ≡ next.Nothing → d ≡ keptFrom s issue 0 (take count held) ks₀
+    kept-end q = k ∙ ap (λ (x : Next). keptBy s issue (120 * count) x ks) q ∙ v .kept
 
-  pub listing-refused : (f : Refusal) → r ≡ next.Refused f → paperListed (record { ending = ending.Refused f; segments = record { held = held; count = count } }) ≡ seenFrom 8 s issue from
-  listing-refused f q = sym (listed ∙ rw q)
+    pub kept-no : (f : Refusal) → r ≡ next.Refused f → d ≡ keptFrom s issue 0 (take count held) ks₀
+    kept-no f q = k ∙ ap (λ (x : Next). keptBy s issue (120 * count) x ks) q ∙ v .kept
 
-  module _ (g : Segment) (q : r ≡ next.One g) where
-    pub listing-room : count < 8
-    listing-room = omega (arith, e .room g q)
+  module _ (r : Next) (e : Stepped s issue (8 - count) at r) where
+    listed : seenFrom 8 s issue from ≡ joined (take count held) (then s issue (8 - count - 1) r)
+    listed = v .same ∙ ap (joined (take count held)) (e .same)
 
-    pub listing-less : 8 - (count + 1) < 8 - count
-    listing-less = omega (arith, listing-room)
+    pub listing-end : r ≡ next.Nothing → paperListed (record { ending = ending.Whole; segments = record { held = held; count = count } }) ≡ seenFrom 8 s issue from
+    listing-end q = sym (listed ∙ rw (q, append-nil (take count held)))
 
-    pub listing-on : Listing s issue from (set held count g) (count + 1) (g .past)
-    listing-on =
-        let n : 8 - count - 1 ≡ 8 - (count + 1) = omega arith in
-        record {
-          long = simp length-set (v .long);
-          few = omega (arith, listing-room);
-          same = listed ∙ rw (q, n) (joined-more (take count held) g (seenFrom (8 - (count + 1)) s issue (g .past)) ∙ rw (add-one count, take-suc-set held count g (omega (arith, listing-room, v .long))));
-        }
+    pub listing-refused : (f : Refusal) → r ≡ next.Refused f → paperListed (record { ending = ending.Refused f; segments = record { held = held; count = count } }) ≡ seenFrom 8 s issue from
+    listing-refused f q = sym (listed ∙ rw q)
+
+    module _ (g : Segment) (q : r ≡ next.One g) where
+      pub listing-room : count < 8
+      listing-room = omega (arith, e .room g q)
+
+      pub listing-less : 8 - (count + 1) < 8 - count
+      listing-less = omega (arith, listing-room)
+
+      taken : take (count + 1) (set held count g) ≡ take count held ++ (g ∷ [])
+      taken = rw (add-one count) (take-suc-set held count g (omega (arith, listing-room, v .long)))
+
+      pub listing-on : (d : List ℕ) → d ≡ keptBy s issue (120 * count) r ks → Listing s issue from ks₀ d (set held count g) (count + 1) (g .past)
+      listing-on d k =
+          let n : 8 - count - 1 ≡ 8 - (count + 1) = omega arith in
+          let m : length (take count held) ≡ count = length-take-le count held (omega (arith, v .long, v .few)) in
+          record {
+            long = simp length-set (v .long);
+            few = omega (arith, listing-room);
+            same = listed ∙ rw (q, n) (joined-more (take count held) g (seenFrom (8 - (count + 1)) s issue (g .past)) ∙ rw taken);
+            kept = k ∙ rw (q, v .kept, taken) (sym (kept-more s issue 0 (take count held) g ks₀ ∙ rw (m, zero-add count)));
+          }

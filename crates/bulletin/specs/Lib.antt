@@ -6,3 +6,4 @@ pub mod Bulletin
 pub mod Front
 pub mod Report
 pub mod View
+pub mod Kept

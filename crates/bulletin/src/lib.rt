@@ -1,5 +1,7 @@
 // A whole bulletin: document 01, "Text and lines" and "Segments and place code blocks".
 ghost use mathlib.Core.Path.{_≡_};
+ghost use mathlib.Core.List.{[]};
+ghost use Prim.Native.Nat.{_≤_};
 use calendar::Date;
 use calendar::Moment;
 use heading::Headed;
@@ -10,8 +12,9 @@ use reading::Purge;
 use refusal::Refusal;
 use refusal::Verdict;
 ghost use lib.ListN.{length};
+ghost use Rattle.codes.specs.Places.{capacity};
 ghost use Rattle.bulletin.specs.Segments.{most, fromLine3};
-ghost use Rattle.bulletin.specs.Seen.{Stepped, seenFrom, Sized, paperListed};
+ghost use Rattle.bulletin.specs.Seen.{Stepped, seenFrom, listOf, Sized, paperListed};
 ghost use Rattle.bulletin.specs.Search.{fromFirst, upToFirst, afterFirst, testOf, closes, linesOn, foundLines, Inside};
 ghost use Rattle.heading.specs.Storm.{isOffice};
 ghost use Rattle.bulletin.specs.Mnd.{officeStorm};
@@ -21,6 +24,7 @@ ghost use Rattle.refusal.specs.Numbers.{noSuchSegment};
 ghost use Rattle.bulletin.specs.Bulletin.{readBulletin};
 ghost use Rattle.bulletin.specs.View.{viewOf, paperViewed, accepted, partOf};
 ghost use Rattle.bulletin.specs.Report.{paperBulletin, reported, listedOf, belowOf};
+ghost use Rattle.bulletin.specs.Kept.{keepAt, keptBy, keptFrom, keptUnder};
 
 // A line's start, or none.
 enum Found {
@@ -113,9 +117,34 @@ fn refused(number: usize, place: usize) -> Next
     Next::Refused(Refusal { number, place })
 }
 
-// The next segment from `from` on, of which at most `left` may still come.
-fn next_segment(text: &[u8], from: usize, issue: usize, left: usize) -> Next
-    ensures { λ r. ⌜ Stepped (now (text .entry)) issue left from r ⌝ }
+// Keeps the places of a segment in the lent numbers from `at` on, if there is room for 120 there.
+fn keep(kept: &mut [u32], at: usize, places: &[u32])
+    requires { ⌜ (at ≤ 960) × (length (now places) ≤ capacity) ⌝ }
+    ensures { λ _. ⌜ now (kept .exit) ≡ keepAt at (now (places .entry)) (now (kept .entry)) ⌝ }
+{
+    if kept.len() < at + 120 {
+        return;
+    }
+    let mut i: usize = 0;
+    while i < places.len() {
+        let x = places[i];
+        kept[at + i] = x;
+        i += 1;
+    }
+}
+
+// The next segment from `from` on, of which at most `left` may still come; its places are kept from `at` on.
+fn next_segment(
+    text: &[u8],
+    from: usize,
+    issue: usize,
+    left: usize,
+    kept: &mut [u32],
+    at: usize,
+) -> Next
+    requires { ⌜ at ≤ 960 ⌝ }
+    ensures is { λ r. ⌜ Stepped (now (text .entry)) issue left from r ⌝ }
+    ensures kept { λ r. ⌜ now (kept .exit) ≡ keptBy (now (text .entry)) issue at r (now (kept .entry)) ⌝ }
 {
     let Found::At(start) = first(text, from, Sought::Opening) else {
         return Next::Nothing;
@@ -135,6 +164,8 @@ fn next_segment(text: &[u8], from: usize, issue: usize, left: usize) -> Next
             };
             let b = lines::find_line(text, content.last);
             let l = lines::find_line(text, end);
+            let held = places.held;
+            keep(kept, at, &held[0..count]);
             Next::One(Segment {
                 start,
                 block: b.next,
@@ -147,9 +178,10 @@ fn next_segment(text: &[u8], from: usize, issue: usize, left: usize) -> Next
 }
 
 // The segments from `from` on: at most eight.
-fn read_segments(text: &[u8], from: usize, issue: usize) -> Listed
+fn read_segments(text: &[u8], from: usize, issue: usize, kept: &mut [u32]) -> Listed
     ensures is { λ r. ⌜ paperListed r ≡ seenFrom most (now (text .entry)) issue from ⌝ }
     ensures sized { λ r. ⌜ Sized (r .segments) ⌝ }
+    ensures kept { λ r. ⌜ now (kept .exit) ≡ keptFrom (now (text .entry)) issue 0 (listOf (r .segments)) (now (kept .entry)) ⌝ }
 {
     let mut held = [Segment {
         start: 0,
@@ -161,7 +193,7 @@ fn read_segments(text: &[u8], from: usize, issue: usize) -> Listed
     let mut count = 0;
     let mut at = from;
     loop {
-        let next = next_segment(text, at, issue, 8 - count);
+        let next = next_segment(text, at, issue, 8 - count, kept, 120 * count);
         match next {
             Next::One(segment) => {
                 held[count] = segment;
@@ -338,6 +370,7 @@ pub struct Bulletin {
 fn nothing(r: Refusal) -> Bulletin
     ensures is { λ b. ⌜ paperBulletin b ≡ paperRefusal r ⌝ }
     ensures sized { λ b. ⌜ Sized (b .segments) ⌝ }
+    ensures none { λ b. ⌜ listOf (b .segments) ≡ [] ⌝ }
 {
     let held = [Segment {
         start: 0,
@@ -352,11 +385,12 @@ fn nothing(r: Refusal) -> Bulletin
 }
 
 // The segments from `from` on, under a head.
-fn read_listed(text: &[u8], from: usize, head: Head) -> Bulletin
+fn read_listed(text: &[u8], from: usize, head: Head, kept: &mut [u32]) -> Bulletin
     ensures is { λ r. ⌜ paperBulletin r ≡ listedOf (now (text .entry)) from head ⌝ }
     ensures sized { λ r. ⌜ Sized (r .segments) ⌝ }
+    ensures kept { λ r. ⌜ now (kept .exit) ≡ keptFrom (now (text .entry)) (head .issue) 0 (listOf (r .segments)) (now (kept .entry)) ⌝ }
 {
-    let listed = read_segments(text, from, head.issue);
+    let listed = read_segments(text, from, head.issue, kept);
     let segments = listed.segments;
     let ending = listed.ending;
     match ending {
@@ -377,9 +411,10 @@ fn read_listed(text: &[u8], from: usize, head: Head) -> Bulletin
 }
 
 // The storm and the segments, below the top.
-fn read_below(text: &[u8], top: Top) -> Bulletin
+fn read_below(text: &[u8], top: Top, kept: &mut [u32]) -> Bulletin
     ensures is { λ r. ⌜ paperBulletin r ≡ belowOf (now (text .entry)) top ⌝ }
     ensures sized { λ r. ⌜ Sized (r .segments) ⌝ }
+    ensures kept { λ r. ⌜ now (kept .exit) ≡ keptFrom (now (text .entry)) (top .issue) 0 (listOf (r .segments)) (now (kept .entry)) ⌝ }
 {
     let third = top.third;
     let mnd = after_first(text, third, Sought::Blank);
@@ -395,25 +430,36 @@ fn read_below(text: &[u8], top: Top) -> Bulletin
                     issue: top.issue,
                     storm,
                 };
-                read_listed(text, from, head)
+                read_listed(text, from, head, kept)
             }
         },
     }
 }
 
-// A whole bulletin, under the year and month of its issue.
-pub fn read(text: &[u8], year: usize, month: usize) -> Bulletin
+// A whole bulletin, under the year and month of its issue. The places of segment i, counted from 0, are kept in the lent numbers from 120 * i on, if there is room
+// for 120 there; of a refused bulletin, those of the segments before the refusal. The other numbers stay as they were.
+pub fn read_keeping(text: &[u8], year: usize, month: usize, kept: &mut [u32]) -> Bulletin
     ensures is { λ r. ⌜ paperBulletin r ≡ reported (readBulletin (now (text .entry)) year month) ⌝ }
     ensures sized { λ r. ⌜ Sized (r .segments) ⌝ }
+    ensures kept { λ r. ⌜ now (kept .exit) ≡ keptUnder (now (text .entry)) (topOf (now (text .entry)) year month) (listOf (r .segments)) (now (kept .entry)) ⌝ }
 {
     let verdict = check(text, year, month);
     match verdict {
         Verdict::Refused(r) => nothing(r),
         Verdict::Accepted => match read_top(text, year, month) {
             Topped::Refused(r) => nothing(r),
-            Topped::Right(top) => read_below(text, top),
+            Topped::Right(top) => read_below(text, top, kept),
         },
     }
+}
+
+// The same, and no places are kept.
+pub fn read(text: &[u8], year: usize, month: usize) -> Bulletin
+    ensures is { λ r. ⌜ paperBulletin r ≡ reported (readBulletin (now (text .entry)) year month) ⌝ }
+    ensures sized { λ r. ⌜ Sized (r .segments) ⌝ }
+{
+    let mut none: [u32; 1] = [0; 1];
+    read_keeping(text, year, month, &mut none)
 }
 
 pub enum Viewed {

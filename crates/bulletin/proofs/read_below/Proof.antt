@@ -1,3 +1,4 @@
+use Rattle.bulletin.proofs.Keeping.{kept-empty}
 use Rattle.bulletin.proofs.Reports.{below-storm, below-place, below-listed}
 use borrow.Author.Needs.{needs}
 use Rattle.bulletin.proofs.read_below.Statement.{statement}
@@ -34,10 +35,13 @@ read-listed-requires : tie.Need-read-listed-requires
 read-listed-requires c κs = search needs
 
 returns : tie.Need-returns
-returns c = (search (below-storm, needs), search needs)
+returns c = (search (below-storm, needs), (search needs, search (kept-empty, needs)))
 
 returns-2 : tie.Need-returns-2
-returns-2 c = (search (below-place, needs), search needs)
+returns-2 c = (search (below-place, needs), (search needs, search (kept-empty, needs)))
+
+same-length : tie.Need-same-length
+same-length c = search needs
 
 returns-3 : tie.Need-returns-3
 returns-3 c = (search (below-listed, needs), search needs)
@@ -58,4 +62,5 @@ read-below-spec =
     read-listed-requires
     returns
     returns-2
+    same-length
     returns-3)

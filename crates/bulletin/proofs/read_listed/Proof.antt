@@ -1,3 +1,4 @@
+use Rattle.bulletin.proofs.Keeping.{kept-none}
 use Rattle.bulletin.proofs.Reports.{listed-refused, listed-none, listed-some}
 use borrow.Author.Needs.{needs}
 use Rattle.bulletin.proofs.read_listed.Statement.{statement}
@@ -15,11 +16,20 @@ enum-told c = search needs
 nothing-requires : tie.Need-nothing-requires
 nothing-requires c κs = search needs
 
+same-length : tie.Need-same-length
+same-length c = search needs
+
 returns : tie.Need-returns
-returns c = (search (listed-none, needs), search needs)
+returns c = (search (listed-none, needs), (search needs, search (kept-none, needs)))
+
+same-length-2 : tie.Need-same-length-2
+same-length-2 c = search needs
 
 returns-2 : tie.Need-returns-2
 returns-2 c = (search (listed-refused, needs), search needs)
+
+same-length-3 : tie.Need-same-length-3
+same-length-3 c = search needs
 
 returns-3 : tie.Need-returns-3
 returns-3 c = (search (listed-some, needs), search needs)
@@ -32,6 +42,9 @@ read-listed-spec =
     enum-known-ending
     enum-told
     nothing-requires
+    same-length
     returns
+    same-length-2
     returns-2
+    same-length-3
     returns-3)

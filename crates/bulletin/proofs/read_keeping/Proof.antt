@@ -1,7 +1,8 @@
+use Rattle.bulletin.proofs.Keeping.{kept-nothing, kept-whole}
 use Rattle.bulletin.proofs.Reports.{read-checked, read-topped, read-whole}
 use borrow.Author.Needs.{needs}
-use Rattle.bulletin.proofs.read.Statement.{statement}
-use Rattle.bulletin.proofs.read.Tie as tie
+use Rattle.bulletin.proofs.read_keeping.Statement.{statement}
+use Rattle.bulletin.proofs.read_keeping.Tie as tie
 
 check-requires : tie.Need-check-requires
 check-requires c κs = search needs
@@ -31,16 +32,19 @@ read-below-requires : tie.Need-read-below-requires
 read-below-requires c κs = search needs
 
 returns : tie.Need-returns
-returns c = (search (read-checked, needs), search needs)
+returns c = (search (read-checked, needs), (search needs, search (kept-nothing, needs)))
 
 returns-2 : tie.Need-returns-2
-returns-2 c = (search (read-topped, needs), search needs)
+returns-2 c = (search (read-topped, needs), (search needs, search (kept-nothing, needs)))
+
+same-length : tie.Need-same-length
+same-length c = search needs
 
 returns-3 : tie.Need-returns-3
-returns-3 c = (search (read-whole, needs), search needs)
+returns-3 c = (search (read-whole, needs), (search needs, search (kept-whole, needs)))
 
-pub read-spec : {M : Type 1} → statement M
-read-spec =
+pub read-keeping-spec : {M : Type 1} → statement M
+read-keeping-spec =
     tie.close
     (tie.spec
     check-requires
@@ -54,4 +58,5 @@ read-spec =
     read-below-requires
     returns
     returns-2
+    same-length
     returns-3)
