@@ -1,38 +1,36 @@
 -- The blocks of a new book: the contents of a bulletin's segments. Assumes nothing.
-use Prim.Native.Nat.{ℕ, suc, _+_, _-_, _≤_, _<_}
-use native.Mathlib.Nat.{ne-of-lt}
+use Prim.Native.Nat.{ℕ, suc, _+_, _-_, _*_, _≤_, _<_}
+use native.Mathlib.Nat.{add-zero, zero-add, suc-inj, ne-of-lt}
 use native.Mathlib.Numerals.{add-one}
 use native.Mathlib.Omega.{arith}
-use mathlib.Core.Path.{_≡_, refl, ap, _∙_, subst}
-use mathlib.Core.Bool.{true}
-use mathlib.Core.List.{List}
+use mathlib.Core.Path.{_≡_, refl, sym, ap, ap₂, _∙_, subst}
+use mathlib.Core.Logic.{_≢_}
+use mathlib.Core.List.{List, [], _∷_, _++_}
 use mathlib.Core.Option.{Option, none, some}
-use lib.ListN.{length, take, getD, getElem?}
-use lib.Dec.{leb}
-use lib.Seq.{getD-take, length-take-le}
-use borrow.Author.Tests.{leb-true}
-use Rattle.laws.proofs.Tests.{apart, by, by-order}
-use Rattle.laws.proofs.Lookups.{get-some, get-none}
+use lib.ListN.{length, take, drop, getD, getElem?, length-drop}
+use lib.Dec.{eqb, leb}
+use lib.Seq.{getD-take, take-suc, length-take-le}
+use mir.Syntax.{w32, w64}
+use mir.Val.{Fits}
+use borrow.Author.Tests.{leb-true, eqb-true, eqb-false}
+use Rattle.laws.proofs.Tests.{apart, by}
+use Rattle.laws.proofs.Lists.{All, all-get}
+use Rattle.laws.proofs.Lookups.{get-more, get-last}
 use Rattle.refusal.specs.Numbers.{tooManyPlaces}
-use Rattle.refusal.specs.Answer.{Answer, ok, no, refused}
+use Rattle.refusal.specs.Answer.{ok, refused}
 use Rattle.calendar.specs.Purge.{purgeOf}
 use Rattle.calendar.proofs.Laws.{purge-low}
 use Rattle.codes.specs.Places.{capacity}
 use Rattle.codes.specs.Block as codes
 use Rattle.codes.specs.Block.{Read, counted, dated, contentIn, contentAt, readBlock, block, wrongAt}
-use Rattle.reading.specs.Held.{paperContent, listOf}
-use Rattle.reading.specs.declared.Content.{Content}
-use Rattle.reading.specs.declared.Purge.the-variants.{At, Refused}
-use Rattle.refusal.specs.declared.Refusal.{Refusal}
-use Rattle.bulletin.specs.Seen as seen
-use Rattle.bulletin.specs.Seen.{Sized}
+use Rattle.bulletin.specs.Seen.{listOf, Sized}
 use Rattle.bulletin.specs.declared.Segment.{Segment}
 use Rattle.bulletin.specs.declared.Segments.{Segments}
-use Rattle.blocks.specs.Block.{bookLength, blockLength, blockOf, putBlock}
+use Rattle.blocks.specs.Block.{bookLength, blockLength, blockCount, blockOf, putBlock}
 use Rattle.blocks.specs.Content.{holding}
 use Rattle.blocks.proofs.Blocks.{put-length, put-same-block, put-other-block}
-use Rattle.blocks.proofs.Contents.{used-length, unused-length}
-use Rattle.making.specs.Fill.{accepted, readAgain, contentFor, Filled}
+use Rattle.blocks.proofs.Contents.{used-length}
+use Rattle.making.specs.Fill.{contentsFrom, Storable, Filled}
 
 -- ---- a content that was read
 -- at most 120 places, and a purge minute of 32 bits
@@ -60,85 +58,97 @@ pub content-kept : (text : List ℕ) (issue start : ℕ) (c : codes.Content) →
 unfolding contentAt
 content-kept text issue start c e = in-kept issue start (readBlock text start) c e
 
--- its block has 512 bytes
-accepted-wide : (a : Answer codes.Content) → ((c : codes.Content) → a ≡ ok c → Kept c) → length (holding (accepted a)) ≡ blockLength
-accepted-wide (ok c) h = used-length c (h c refl .few)
-accepted-wide (no number place) h = unused-length
+-- ---- the contents, one after another
+contents-length : (i : ℕ) (kept : List ℕ) (gs : List Segment) → length (contentsFrom i kept gs) ≡ length gs
+unfolding contentsFrom
+contents-length i kept [] = refl
+contents-length i kept (g ∷ gs) = ap suc (contents-length (suc i) kept gs)
 
-again-wide : (text : List ℕ) (issue : ℕ) (o : Option Segment) → length (holding (readAgain text issue o)) ≡ blockLength
-again-wide text issue none = unused-length
-again-wide text issue (some g) = accepted-wide (contentAt text issue (g .start)) (content-kept text issue (g .start))
+contents-more : (i : ℕ) (kept : List ℕ) (gs : List Segment) (g : Segment)
+    → contentsFrom i kept (gs ++ (g ∷ [])) ≡ contentsFrom i kept gs ++ (record { purge = g .purge; places = take (g .count) (drop (capacity * (i + length gs)) kept) } ∷ [])
+unfolding contentsFrom
+contents-more i kept [] g = rw add-zero
+contents-more i kept (x ∷ gs) g =
+    let e : suc i + length gs ≡ i + suc (length gs) = omega arith in
+    ap (λ (cs : List codes.Content). record { purge = x .purge; places = take (x .count) (drop (capacity * i) kept) } ∷ cs) (contents-more (suc i) kept gs g ∙ rw e)
 
-for-wide : (text : List ℕ) (issue : ℕ) (gs : List Segment) (i : ℕ) → length (holding (contentFor text issue gs i)) ≡ blockLength
-unfolding contentFor
-for-wide text issue gs i = again-wide text issue (getElem? gs i)
+-- ---- a book whose blocks are all unused
+pub filled-none : (l : List ℕ) → length l ≡ bookLength → ((k : ℕ) → k < blockCount → blockOf k l ≡ holding none) → Filled [] l
+filled-none l h f = record { long = h; first = f 0 (omega arith); blocks = λ k n. f (suc k) (omega arith) }
 
--- ---- one block filled
-module _ (text : List ℕ) (issue start : ℕ) (q : Content) (eq : paperContent q ≡ contentAt text issue start) where
-  module _ (t : ℕ) (p : q .purge ≡ At t) where
-    filled-is : contentAt text issue start ≡ ok (record { purge = t; places = listOf (q .places) })
-    filled-is = rw (← eq, p)
-
-    pub filled-low : t < 4294967296
-    filled-low = content-kept text issue start (record { purge = t; places = listOf (q .places) }) filled-is .low
-
-    pub filled-some : (k : ℕ) (l d : List ℕ) → d ≡ putBlock k (holding (some (record { purge = t; places = take (q .places .count - 0) (q .places .held) }))) l
-        → d ≡ putBlock k (holding (accepted (contentAt text issue start))) l
-    filled-some k l d e =
-        let f : q .places .count - 0 ≡ q .places .count = omega arith in
-        rw filled-is (e ∙ ap (λ (n : ℕ). putBlock k (holding (some (record { purge = t; places = take n (q .places .held) }))) l) f)
-
-  pub filled-none : (r : Refusal) → q .purge ≡ Refused r → (k : ℕ) (l d : List ℕ) → d ≡ putBlock k (holding none) l
-      → d ≡ putBlock k (holding (accepted (contentAt text issue start))) l
-  filled-none r p k l d e = rw (← eq, p) e
-
--- ---- the next block
-module _ (text : List ℕ) (issue i : ℕ) (gs : Segments) (z : Sized gs) where
-  long : length (seen.listOf gs) ≡ gs .count
-  long = length-take-le (gs .count) (gs .held) (omega (arith, z .long, z .few))
-
-  pub next-some : i < gs .count → (g : Segment) (l d : List ℕ) → d ≡ putBlock (i + 1) (holding (accepted (contentAt text issue (getD (gs .held) i g .start)))) l
-      → d ≡ putBlock (i + 1) (holding (contentFor text issue (seen.listOf gs) i)) l
-  unfolding contentFor
-  next-some h g l d e = rw (get-some g (seen.listOf gs) i (omega (arith, long)), getD-take (gs .count) (gs .held) i g h) e
-
-  pub next-none : gs .count ≤ i → (l d : List ℕ) → d ≡ putBlock (i + 1) (holding none) l → d ≡ putBlock (i + 1) (holding (contentFor text issue (seen.listOf gs) i)) l
-  unfolding contentFor
-  next-none h l d e = rw (get-none (seen.listOf gs) i (omega (arith, long))) e
-
--- ---- all of them
-pub record Filling (text : List ℕ) (issue : ℕ) (gs : Segments) (i : ℕ) (l : List ℕ) : Type 0 where
-  pub left : i ≤ 48
-  pub sized : Sized gs
-  pub filled : Filled text issue (seen.listOf gs) i l
-
-pub filling-start : (text : List ℕ) (issue : ℕ) (gs : Segments) (l : List ℕ) → Sized gs → length l ≡ bookLength → Filling text issue gs 0 l
-filling-start text issue gs l z h = record { left = omega arith; sized = z; filled = record { long = h; blocks = λ k n. let no : ⊥ = omega arith in absurd no } }
-
-module _ (text : List ℕ) (issue : ℕ) (gs : Segments) (i : ℕ) (l : List ℕ) (v : Filling text issue gs i l) where
-  pub filling-on : (j : ℕ) → i < j → leb j 48 ≡ true → (d : List ℕ) → d ≡ putBlock (i + 1) (holding (contentFor text issue (seen.listOf gs) i)) l → Filling text issue gs (i + 1) d
-  filling-on j h j48 d e =
-      let most : j ≤ 48 = leb-true j 48 j48 in
-      let b : List ℕ = holding (contentFor text issue (seen.listOf gs) i) in
-      let w : length b ≡ blockLength = for-wide text issue (seen.listOf gs) i in
-      let m : length l ≡ bookLength = v .filled .long in
-      let f : d ≡ putBlock (suc i) b l = e ∙ ap (λ (k : ℕ). putBlock k b l) (add-one i) in
+-- one block more
+module _ (cs : List codes.Content) (l : List ℕ) (f : Filled cs l) (i : ℕ) (at : length cs ≡ i) (low : i < 48) (c : codes.Content) (few : length (c .places) ≤ capacity) where
+  filled-more : Filled (cs ++ (c ∷ [])) (putBlock (suc i) (holding (some c)) l)
+  filled-more =
+      let b : List ℕ = holding (some c) in
+      let w : length b ≡ blockLength = used-length c few in
+      let m : length l ≡ bookLength = f .long in
+      let last : getElem? (cs ++ (c ∷ [])) i ≡ some c = ap (getElem? (cs ++ (c ∷ []))) (sym at) ∙ get-last cs c in
       record {
-        left = omega arith;
-        sized = v .sized;
-        filled = record {
-          long = ap (λ (x : List ℕ). length x) f ∙ put-length (suc i) l b (omega arith) w ∙ m;
-          blocks = λ k n. ap (blockOf (suc k)) f
-              ∙ by-order k i
-              (λ g. put-other-block 49 (suc i) l b (omega arith) m w (suc k) (omega arith) (ne-of-lt (omega arith)) ∙ v .filled .blocks k g)
-              (λ g. let s : i ≡ k = omega arith in
-              subst (λ (j : ℕ). blockOf (suc j) (putBlock (suc i) b l) ≡ holding (contentFor text issue (seen.listOf gs) j)) s
-              (put-same-block 49 (suc i) l b (omega arith) m w));
-        };
+        long = put-length (suc i) l b (omega arith) w ∙ m;
+        first = put-other-block 49 (suc i) l b (omega arith) m w 0 (omega arith) (ne-of-lt (omega arith)) ∙ f .first;
+        blocks = λ k n. by (eqb k i)
+            (λ t. let e : i ≡ k = sym (eqb-true k i t) in
+            subst (λ (j : ℕ). blockOf (suc j) (putBlock (suc i) b l) ≡ holding (getElem? (cs ++ (c ∷ [])) j)) e (put-same-block 49 (suc i) l b (omega arith) m w ∙ ap holding (sym last)))
+            (λ t. let other : k ≢ i = eqb-false k i t in
+            put-other-block 49 (suc i) l b (omega arith) m w (suc k) (omega arith) (λ e. other (suc-inj e)) ∙ f .blocks k n
+            ∙ ap holding (sym (get-more cs c k (λ e. other (e ∙ at)))));
       }
 
-  pub filling-done : 48 ≤ i → Filled text issue (seen.listOf gs) 48 l
-  filling-done h = let s : i ≡ 48 = omega (arith, v .left) in subst (λ (j : ℕ). Filled text issue (seen.listOf gs) j l) s (v .filled)
+-- ---- the loop: the first i segments' contents are stored
+pub record Filling (kept : List ℕ) (held : List Segment) (count i : ℕ) (l : List ℕ) : Type 0 where
+  pub left : i ≤ count
+  pub sized : Sized (record { held = held; count = count })
+  pub storable : All Storable (take count held)
+  pub filled : Filled (contentsFrom 0 kept (take i held)) l
 
+pub filling-start : (kept : List ℕ) (gs : Segments) (l : List ℕ) → Sized gs → All Storable (listOf gs) → Filled [] l → Filling kept (gs .held) (gs .count) 0 l
+unfolding contentsFrom
+filling-start kept gs l z a f = record { left = omega arith; sized = z; storable = a; filled = f }
+
+module _ (kept : List ℕ) (held : List Segment) (count i : ℕ) (l : List ℕ) (v : Filling kept held count i l) where
   pub filling-long : length l ≡ bookLength
   filling-long = v .filled .long
+
+  pub filling-done : count ≤ i → Filled (contentsFrom 0 kept (take count held)) l
+  filling-done h = let s : i ≡ count = omega (arith, v .left) in subst (λ (j : ℕ). Filled (contentsFrom 0 kept (take j held)) l) s (v .filled)
+
+  module _ (h : i < count) (z : Segment) where
+    fits : Storable (getD held i z)
+    fits = subst Storable (getD-take count held i z h) (all-get z i (v .storable) (rw (length-take-le count held (omega (arith, v .sized .long, v .sized .few))) h))
+
+    pub filling-fits : Fits w64 (capacity * i + getD held i z .count)
+    filling-fits = omega (arith, v .sized .few, fits .few)
+
+    pub filling-low : Fits w32 (getD held i z .purge)
+    filling-low = omega (arith, fits .low)
+
+    module _ (m : length kept ≡ 960) where
+      pub filling-end : capacity * i + getD held i z .count ≤ length kept
+      filling-end = omega (arith, v .sized .few, fits .few)
+
+      pub filling-few : length (take (capacity * i + getD held i z .count - capacity * i) (drop (capacity * i) kept)) ≤ capacity
+      filling-few = rw (length-take-le (capacity * i + getD held i z .count - capacity * i) (drop (capacity * i) kept) (rw length-drop (omega (arith, filling-end)))) (omega (arith, fits .few))
+
+      pub filling-on : (d : List ℕ)
+          → d ≡ putBlock (i + 1) (holding (some (record { purge = getD held i z .purge; places = take (capacity * i + getD held i z .count - capacity * i) (drop (capacity * i) kept) }))) l
+          → Filling kept held count (i + 1) d
+      filling-on d e =
+          let g : Segment = getD held i z in
+          let c : codes.Content = record { purge = g .purge; places = take (g .count) (drop (capacity * i) kept) } in
+          let eight : count ≤ 8 = v .sized .few in
+          let wide : length held ≡ 8 = v .sized .long in
+          let n : capacity * i + g .count - capacity * i ≡ g .count = omega arith in
+          let same : d ≡ putBlock (suc i) (holding (some c)) l =
+          e ∙ ap₂ (λ (k j : ℕ). putBlock k (holding (some (record { purge = g .purge; places = take j (drop (capacity * i) kept) }))) l) (add-one i) n in
+          let taken : length (take i held) ≡ i = length-take-le i held (omega arith) in
+          let cs : List codes.Content = contentsFrom 0 kept (take i held) in
+          let are : contentsFrom 0 kept (take (i + 1) held) ≡ cs ++ (c ∷ []) =
+          ap (λ (k : ℕ). contentsFrom 0 kept (take k held)) (add-one i) ∙ ap (contentsFrom 0 kept) (take-suc held i z (omega arith)) ∙ contents-more 0 kept (take i held) g ∙ rw (taken, zero-add i) in
+          let short : length (c .places) ≤ capacity = subst (λ (j : ℕ). length (take j (drop (capacity * i) kept)) ≤ capacity) n filling-few in
+          record {
+            left = omega arith;
+            sized = v .sized;
+            storable = v .storable;
+            filled = rw (are, same) (filled-more cs l (v .filled) i (contents-length 0 kept (take i held) ∙ taken) (omega arith) c short);
+          }

@@ -5,7 +5,7 @@ use native.Mathlib.Omega.{arith}
 use mathlib.Core.Path.{_≡_, refl, sym, ap, _∙_}
 use mathlib.Core.List.{List, [], _∷_}
 use mathlib.Core.Option.{none}
-use lib.ListN.{length, getElem?, set, replicate, length-set}
+use lib.ListN.{length, getElem?, set, replicate, length-set, take-append-drop}
 use lib.Seq.{sets}
 use borrow.Author.Tests.{le-leb, lt-leb}
 use Rattle.laws.proofs.Tests.{by-order}
@@ -21,7 +21,7 @@ use Rattle.layout.specs.Lies.{Lies}
 use Rattle.layout.proofs.ForthBlocks.{lies-sealed}
 use Rattle.layout.proofs.ForthIndex.{index-length}
 use Rattle.layout.proofs.Stands.{part-segment}
-use Rattle.making.specs.Fill.{Indexed}
+use Rattle.making.specs.Fill.{Filled, Indexed}
 
 -- ---- the other blocks
 -- a new book has no copies
@@ -65,8 +65,13 @@ index-stored : (issue : ℕ) (cs : List Content) (x y : ℕ) (l : List ℕ)
 unfolding putBlock indexBytes flat
 index-stored issue cs x y l = refl
 
-module _ (l : List ℕ) (issue n : ℕ) (h : length l ≡ bookLength) where
-  module _ (cs : List Content) (m : length cs ≡ n) (few : n < 9) (blocks : (k : ℕ) → k < 48 → blockOf (suc k) l ≡ holding (getElem? cs k)) where
+-- a block stored where it stands
+put-back : (l : List ℕ) → putBlock 0 (blockOf 0 l) l ≡ l
+unfolding putBlock blockOf
+put-back l = take-append-drop 512 l
+
+module _ (l : List ℕ) (issue n : ℕ) where
+  module _ (cs : List Content) (m : length cs ≡ n) (few : n < 9) (f : Filled cs l) where
     b : Book
     b = newBook issue cs
 
@@ -93,11 +98,12 @@ module _ (l : List ℕ) (issue n : ℕ) (h : length l ≡ bookLength) where
     unsealed-lies : Lies unsealed b
     unfolding unsealed index b blockBytes
     unsealed-lies =
+        let h : length l ≡ bookLength = f .long in
         record {
           long = put-length 0 l index (omega arith) wide ∙ h;
           index = ap sealed (put-same-block 49 0 l index (omega arith) h wide) ∙ sealed-again (indexBytes b) x y;
           blocks = λ k g. put-other-block 49 0 l index (omega arith) h wide (suc k) (omega arith) (ne-of-gt (omega arith))
-              ∙ blocks k g ∙ ap holding (sym (new-held issue cs k (omega arith)));
+              ∙ f .blocks k g ∙ ap holding (sym (new-held issue cs k (omega arith)));
           four = refl;
           sixteen = omega arith;
         }
@@ -106,12 +112,11 @@ module _ (l : List ℕ) (issue n : ℕ) (h : length l ≡ bookLength) where
     unfolding b
     made-is d e = e ∙ lies-sealed unsealed b unsealed-lies
 
-    made-all : (l₁ l₂ d : List ℕ) → l₁ ≡ putBlock 0 (holding none) l → l₂ ≡ sets l₁ 0 (bytes32 issue)
-        → d ≡ putBlock 0 (sealed (blockOf 0 (set l₂ 4 n))) (set l₂ 4 n) → d ≡ bytesOf (newBook issue cs)
-    made-all l₁ l₂ d e₁ e₂ e =
-        let u : set l₂ 4 n ≡ unsealed = ap (λ (z : List ℕ). set z 4 n) (e₂ ∙ ap (λ (z : List ℕ). sets z 0 (bytes32 issue)) e₁) ∙ unsealed-is in
+    made-all : (l₁ d : List ℕ) → l₁ ≡ sets l 0 (bytes32 issue) → d ≡ putBlock 0 (sealed (blockOf 0 (set l₁ 4 n))) (set l₁ 4 n) → d ≡ bytesOf (newBook issue cs)
+    made-all l₁ d e₁ e =
+        let back : l ≡ putBlock 0 (holding none) l = sym (put-back l) ∙ ap (λ (z : List ℕ). putBlock 0 z l) (f .first) in
+        let u : set l₁ 4 n ≡ unsealed = ap (λ (z : List ℕ). set z 4 n) (e₁ ∙ ap (λ (z : List ℕ). sets z 0 (bytes32 issue)) back) ∙ unsealed-is in
         made-is d (e ∙ ap (λ (z : List ℕ). putBlock 0 (sealed (blockOf 0 z)) z) u)
 
-  pub indexed : (l₁ l₂ d : List ℕ) → l₁ ≡ putBlock 0 (holding none) l → l₂ ≡ sets l₁ 0 (bytes32 issue)
-      → d ≡ putBlock 0 (sealed (blockOf 0 (set l₂ 4 n))) (set l₂ 4 n) → Indexed l issue n d
-  indexed l₁ l₂ d e₁ e₂ e = record { whole = λ cs m few blocks. made-all cs m few blocks l₁ l₂ d e₁ e₂ e }
+  pub indexed : (l₁ d : List ℕ) → l₁ ≡ sets l 0 (bytes32 issue) → d ≡ putBlock 0 (sealed (blockOf 0 (set l₁ 4 n))) (set l₁ 4 n) → Indexed l issue n d
+  indexed l₁ d e₁ e = record { whole = λ cs m few f. made-all cs m few f l₁ d e₁ e }

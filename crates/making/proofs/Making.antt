@@ -1,45 +1,78 @@
 -- The ways out of making a book of a bulletin. Assumes nothing.
-use Prim.Native.Nat.{ℕ, zero, suc, _<_}
+use Prim.Native.Nat.{ℕ, zero, suc, _+_, _*_, _≤_, _<_}
+use native.Mathlib.Nat.{add-zero, zero-add}
 use native.Mathlib.Omega.{arith}
-use mathlib.Core.Path.{_≡_, refl, sym, ap, ap₂, _∙_}
+use mathlib.Core.Path.{_≡_, refl, sym, ap, ap₂, _∙_, subst}
 use mathlib.Core.List.{List, [], _∷_, map}
-use lib.ListN.{length, getElem?, length-map}
+use mathlib.Core.Option.{some}
+use lib.ListN.{length, take, drop, getElem?, length-map}
 use lib.Seq.{length-take-le}
 use borrow.Author.Tests.{ne-eqb}
 use Rattle.laws.proofs.Tests.{apart}
-use Rattle.laws.proofs.Lists.{All, all-cons}
+use Rattle.laws.proofs.Lists.{All, all-each, all-found}
+use Rattle.laws.proofs.Lookups.{some-same}
 use Rattle.refusal.specs.Numbers.{wrongLength}
 use Rattle.refusal.specs.Answer.{Answer, ok, no, refused, refusalFor, andThen, paperVerdict}
 use Rattle.refusal.specs.declared.Refusal.{Refusal}
 use Rattle.refusal.specs.declared.Verdict.{Verdict}
 use Rattle.refusal.specs.declared.Verdict.the-variants as verdict
+use Rattle.codes.specs.Places.{capacity}
 use Rattle.codes.specs.Block.{Content, contentAt}
 use Rattle.bulletin.specs.Segments as segments
 use Rattle.bulletin.specs.Bulletin as rule
 use Rattle.bulletin.specs.Bulletin.{readBulletin}
 use Rattle.bulletin.specs.Seen.{seen, listOf, Sized}
 use Rattle.bulletin.specs.Report.{reported, reportOf, paperBulletin}
+use Rattle.bulletin.specs.Front.{topOf}
+use Rattle.bulletin.specs.Kept.{placesOf, keptFrom, keptUnder}
 use Rattle.bulletin.specs.declared.Segment.{Segment}
 use Rattle.bulletin.specs.declared.Head.{Head}
 use Rattle.bulletin.specs.declared.Reading.the-variants as reading
 use Rattle.bulletin.specs.declared.Bulletin.{Bulletin}
-use Rattle.blocks.specs.Block.{bookLength, blockOf}
-use Rattle.blocks.specs.Content.{holding}
+use Rattle.bulletin.proofs.Keeping.{kept-part}
+use Rattle.bulletin.proofs.Reports.{kept-accepted}
+use Rattle.blocks.specs.Block.{bookLength}
 use Rattle.steps.specs.Book.{Book, newBook}
 use Rattle.layout.specs.Layout.{bytesOf}
 use Rattle.layout.proofs.Forth.{issue-low}
 use Rattle.making.specs.Make.{bookFrom, makeRule, madeAnswer, madeBytes, Makes}
-use Rattle.making.specs.Fill.{accepted, contentFor, Filled, Indexed}
+use Rattle.making.specs.Fill.{contentsFrom, Storable, Filled, Indexed}
+use Rattle.making.proofs.Filling.{content-kept}
 use Rattle.making.proofs.Made.{contents-read}
 use Rattle.making.proofs.Sounding.{made-issue}
 
--- the contents that are read again are those of the bulletin
-contents-for : (text : List ℕ) (issue : ℕ) (gs : List segments.Segment) (k : ℕ) → All (λ (g : segments.Segment). contentAt text issue (g .start) ≡ ok (g .content)) gs
-    → contentFor text issue (map seen gs) k ≡ getElem? (map (λ (g : segments.Segment). g .content) gs) k
-unfolding contentFor
-contents-for text issue [] k a = refl
-contents-for text issue (g ∷ gs) zero (all-cons e a) = ap accepted e
-contents-for text issue (g ∷ gs) (suc k) (all-cons e a) = contents-for text issue gs k a
+-- ---- the segments of a bulletin
+abbrev contentOf : segments.Segment → Content
+contentOf g = g .content
+
+get-seen : (gs : List segments.Segment) (k : ℕ) (g : segments.Segment) → getElem? gs k ≡ some g → getElem? (map seen gs) k ≡ some (seen g)
+get-seen [] k g e = apart cc
+get-seen (x ∷ gs) zero g e = ap (λ (y : segments.Segment). some (seen y)) (some-same e)
+get-seen (x ∷ gs) (suc k) g e = get-seen gs k g e
+
+contents-by : (kept : List ℕ) (i : ℕ) (gs : List segments.Segment)
+    → ((k : ℕ) (g : segments.Segment) → getElem? gs k ≡ some g → take (length (g .content .places)) (drop (capacity * (i + k)) kept) ≡ g .content .places)
+    → contentsFrom i kept (map seen gs) ≡ map contentOf gs
+unfolding contentsFrom
+contents-by kept i [] f = refl
+contents-by kept i (g ∷ gs) f =
+    let here : take (length (g .content .places)) (drop (capacity * i) kept) ≡ g .content .places = rw add-zero at (f 0 g refl) in
+    ap₂ (λ (ps : List ℕ) (cs : List Content). record { purge = g .content .purge; places = ps } ∷ cs) here
+    (contents-by kept (suc i) gs (λ k x e. let n : i + suc k ≡ suc i + k = omega arith in rw n at (f (suc k) x e)))
+
+module _ (text : List ℕ) (issue : ℕ) (gs : List segments.Segment) (a : All (λ (g : segments.Segment). contentAt text issue (g .start) ≡ ok (g .content)) gs) where
+  -- a block has room for each
+  storable : All Storable (map seen gs)
+  storable = all-each seen (λ g e. let k = content-kept text issue (g .start) (g .content) e in record { few = k .few; low = k .low }) a
+
+  -- the contents that are kept are theirs
+  contents-kept : (ks : List ℕ) → length gs ≤ 8 → length ks ≡ 960 → contentsFrom 0 (keptFrom text issue 0 (map seen gs) ks) (map seen gs) ≡ map contentOf gs
+  contents-kept ks few long =
+      contents-by (keptFrom text issue 0 (map seen gs) ks) 0 gs
+      (λ k g e. let says : contentAt text issue (g .start) ≡ ok (g .content) = all-found k a e in
+      rw (zero-add k)
+      (kept-part text issue (map seen gs) ks (omega (arith, length-map gs seen)) k (seen g) (get-seen gs k g e) (g .content .places) (ap placesOf says)
+      (content-kept text issue (g .start) (g .content) says .few)))
 
 -- what the rule says gives the promise
 ruled : (l d text : List ℕ) (year month : ℕ) (r : Verdict) (a : Answer Book) → makeRule l text year month ≡ a → paperVerdict r ≡ madeAnswer a → d ≡ madeBytes a l
@@ -105,29 +138,32 @@ module _ (l text : List ℕ) (year month : ℕ) where
       pub make-issue : h .issue < 4294967296
       make-issue = let e = told .issue in omega (arith, issue-low (told .said .issue) (made-issue text year month (told .said) (told .read)))
 
-      contents : List Content
-      contents = map (λ (g : segments.Segment). g .content) (told .said .segments)
+      pub make-storable : All Storable (listOf (b .segments))
+      make-storable = subst (All Storable) (sym (told .seen-are)) (storable text (told .said .issue) (told .said .segments) (contents-read text year month (told .said) (told .read)))
 
-      contents-long : Sized (b .segments) → length contents ≡ b .segments .count
-      unfolding contents
-      contents-long z =
-          length-map (told .said .segments) (λ (g : segments.Segment). g .content)
-          ∙ sym (length-map (told .said .segments) seen)
-          ∙ ap (λ (gs : List Segment). length gs) (sym (told .seen-are))
-          ∙ length-take-le (b .segments .count) (b .segments .held) (omega (arith, z .long, z .few))
+      module _ (z : Sized (b .segments)) where
+        long : length (told .said .segments) ≡ b .segments .count
+        long =
+            sym (length-map (told .said .segments) seen)
+            ∙ ap (λ (gs : List Segment). length gs) (sym (told .seen-are))
+            ∙ length-take-le (b .segments .count) (b .segments .held) (omega (arith, z .long, z .few))
 
-      contents-held : (l₁ : List ℕ) → Filled text (h .issue) (listOf (b .segments)) 48 l₁ → (k : ℕ) → k < 48 → blockOf (suc k) l₁ ≡ holding (getElem? contents k)
-      unfolding contents
-      contents-held l₁ f k n =
-          f .blocks k n
-          ∙ ap₂ (λ (issue : ℕ) (gs : List Segment). holding (contentFor text issue gs k)) (told .issue) (told .seen-are)
-          ∙ ap holding (contents-for text (told .said .issue) (told .said .segments) k (contents-read text year month (told .said) (told .read)))
+        contents-are : (ks₀ ks : List ℕ) → length ks₀ ≡ 960 → ks ≡ keptUnder text (topOf text year month) (listOf (b .segments)) ks₀
+            → contentsFrom 0 ks (listOf (b .segments)) ≡ map contentOf (told .said .segments)
+        contents-are ks₀ ks k e =
+            let few : length (told .said .segments) ≤ 8 = omega (arith, long, z .few) in
+            let f : ks ≡ keptFrom text (told .said .issue) 0 (listOf (b .segments)) ks₀ = e ∙ kept-accepted text year month (told .said) (told .read) (listOf (b .segments)) ks₀ in
+            ap (λ (l : List ℕ). contentsFrom 0 l (listOf (b .segments))) f
+            ∙ ap (λ (gs : List Segment). contentsFrom 0 (keptFrom text (told .said .issue) 0 gs ks₀) gs) (told .seen-are)
+            ∙ contents-kept text (told .said .issue) (told .said .segments) (contents-read text year month (told .said) (told .read)) ks₀ few k
 
-      pub make-made : length l ≡ bookLength → Sized (b .segments) → (l₁ d : List ℕ) → Filled text (h .issue) (listOf (b .segments)) 48 l₁
-          → Indexed l₁ (h .issue) (b .segments .count) d → Makes l d text year month verdict.Accepted
-      unfolding andThen contents
-      make-made g z l₁ d f i =
-          ruled l d text year month verdict.Accepted (ok (bookFrom (told .said)))
-          (rule-long l text year month g (ok (told .said)) (told .read)) refl
-          (i .whole contents (contents-long z) (omega (arith, z .few)) (contents-held l₁ f)
-          ∙ ap (λ (issue : ℕ). bytesOf (newBook issue contents)) (told .issue))
+        pub make-made : length l ≡ bookLength → (ks₀ ks : List ℕ) → length ks₀ ≡ 960 → ks ≡ keptUnder text (topOf text year month) (listOf (b .segments)) ks₀
+            → (l₁ d : List ℕ) → Filled (contentsFrom 0 ks (listOf (b .segments))) l₁ → Indexed l₁ (h .issue) (b .segments .count) d → Makes l d text year month verdict.Accepted
+        unfolding andThen
+        make-made g ks₀ ks k e l₁ d f i =
+            let cs : List Content = map contentOf (told .said .segments) in
+            let filled : Filled cs l₁ = subst (λ (x : List Content). Filled x l₁) (contents-are ks₀ ks k e) f in
+            ruled l d text year month verdict.Accepted (ok (bookFrom (told .said)))
+            (rule-long l text year month g (ok (told .said)) (told .read)) refl
+            (i .whole cs (length-map (told .said .segments) contentOf ∙ long) (omega (arith, z .few)) filled
+            ∙ ap (λ (issue : ℕ). bytesOf (newBook issue cs)) (told .issue))

@@ -1,36 +1,33 @@
 -- What the code keeps true while it makes a book: which contents the blocks hold, and what is left before block 0 is written.
-use Prim.Native.Nat.{ℕ, suc, _<_}
+use Prim.Native.Nat.{ℕ, suc, _*_, _≤_, _<_}
 use mathlib.Core.Path.{_≡_}
-use mathlib.Core.List.{List}
-use mathlib.Core.Option.{Option, none, some}
-use lib.ListN.{length, getElem?}
-use Rattle.refusal.specs.Answer.{Answer, ok, no}
-use Rattle.codes.specs.Block.{Content, contentAt}
+use mathlib.Core.List.{List, [], _∷_}
+use mathlib.Core.Option.{none}
+use lib.ListN.{length, take, drop, getElem?}
+use Rattle.codes.specs.Places.{capacity}
+use Rattle.codes.specs.Block.{Content}
 use Rattle.bulletin.specs.declared.Segment.{Segment}
 use Rattle.blocks.specs.Block.{bookLength, blockOf}
 use Rattle.blocks.specs.Content.{holding}
 use Rattle.steps.specs.Book.{newBook}
 use Rattle.layout.specs.Layout.{bytesOf}
 
-abbrev pub accepted : Answer Content → Option Content
-accepted (ok c) = some c
-accepted (no number place) = none
+-- the contents of segments, the first of which is segment i: their places are those that are kept from 120 * i on
+unfoldable pub contentsFrom : ℕ → List ℕ → List Segment → List Content
+contentsFrom i kept [] = []
+contentsFrom i kept (g ∷ gs) = record { purge = g .purge; places = take (g .count) (drop (capacity * i) kept) } ∷ contentsFrom (suc i) kept gs
 
--- a segment's content, read again from its start
-abbrev pub readAgain : List ℕ → ℕ → Option Segment → Option Content
-readAgain text issue none = none
-readAgain text issue (some g) = accepted (contentAt text issue (g .start))
+-- a block has room for a segment's content
+pub record Storable (g : Segment) : Type 0 where
+  pub few : g .count ≤ capacity
+  pub low : g .purge < 4294967296
 
--- the content of segment i, counted from 0
-unfoldable pub contentFor : List ℕ → ℕ → List Segment → ℕ → Option Content
-contentFor text issue gs i = readAgain text issue (getElem? gs i)
-
--- the first i blocks after block 0 hold the segments' contents, and those behind them are unused
-pub record Filled (text : List ℕ) (issue : ℕ) (gs : List Segment) (i : ℕ) (l : List ℕ) : Type 0 where
+-- the blocks after block 0 hold these contents, and the others are unused
+pub record Filled (cs : List Content) (l : List ℕ) : Type 0 where
   pub long : length l ≡ bookLength
-  pub blocks : (k : ℕ) → k < i → blockOf (suc k) l ≡ holding (contentFor text issue gs k)
+  pub first : blockOf 0 l ≡ holding none
+  pub blocks : (k : ℕ) → k < 48 → blockOf (suc k) l ≡ holding (getElem? cs k)
 
--- whatever contents the 48 blocks hold, they are a new book's
+-- whatever contents the blocks hold, they are a new book's
 pub record Indexed (before : List ℕ) (issue n : ℕ) (after : List ℕ) : Type 0 where
-  pub whole : (cs : List Content) → length cs ≡ n → n < 9 → ((k : ℕ) → k < 48 → blockOf (suc k) before ≡ holding (getElem? cs k))
-      → after ≡ bytesOf (newBook issue cs)
+  pub whole : (cs : List Content) → length cs ≡ n → n < 9 → Filled cs before → after ≡ bytesOf (newBook issue cs)

@@ -9,7 +9,6 @@ pub write-index-spec : {M : Type 1} → statement M
 write-index-spec =
     tie.close
     (tie.spec
-    (λ c κs. search needs)
     (λ c. search needs)
     (λ c κs. search needs)
     (λ c. search needs)
