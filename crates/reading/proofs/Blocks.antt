@@ -3,7 +3,8 @@ use Prim.Native.Nat.{ℕ, suc, _+_, _-_, _<_}
 use native.Mathlib.Omega.{arith}
 use mathlib.Core.Path.{_≡_, refl, sym, ap, ap₂, subst, _∙_}
 use mathlib.Core.List.{List, []}
-use mathlib.Core.Bool.{Bool, true, false}
+use mathlib.Core.Bool.{Bool, true, false, not}
+use borrow.Author.Tests.{not-true, not-false}
 use lib.ListN.{length, drop}
 use Rattle.calendar.specs.declared.Stamp.{Stamp}
 use Rattle.codes.specs.Places.{placeOf, nil, Low}
@@ -71,13 +72,17 @@ module _ (s : List ℕ) (at : ℕ) (c : Cursor) (array : List ℕ) (count : ℕ)
         }
 
     -- more places stay more
-    pub reads-past : over ≡ true → Reads s at next t
-    reads-past o =
+    pub reads-past : not over ≡ false → Reads s at next t
+    reads-past full =
+        let o : over ≡ true = not-false over full in
         reads-on t (v .good)
         (v .held ∙ capped-many (v .got) (held-many t (v .got) (v .held) o)
         ∙ sym (capped-many (insertCovered p n m (v .got)) (omega (arith, held-many t (v .got) (v .held) o, run-length (suc m - n) (placeOf p n) (v .got)))))
 
-    module _ (o : over ≡ false) (array′ : List ℕ) (put : Put) (g : Grown array count (placeOf p n) (placeOf p m + 1) array′ put) where
+    module _ (room : not over ≡ true) (array′ : List ℕ) (put : Put) (g : Grown array count (placeOf p n) (placeOf p m + 1) array′ put) where
+      o : over ≡ false
+      o = not-true over room
+
       reads-put : Reads s at next (after array′ count put)
       reads-put =
           let f : placeOf p m + 1 - placeOf p n ≡ suc m - n = omega arith in

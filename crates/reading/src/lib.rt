@@ -188,15 +188,17 @@ pub fn read_block(text: &[u8], at: usize) -> Block
         match step {
             Step::Covers(prefix, first, last, next) => {
                 cursor = next;
-                if over {
-                    continue;
+                if !over {
+                    let put = cover(&mut held, count, prefix, first, last);
+                    match put {
+                        Put::Total(total) => {
+                            count = total;
+                        }
+                        Put::Over => {
+                            over = true;
+                        }
+                    }
                 }
-                let put = cover(&mut held, count, prefix, first, last);
-                let Put::Total(total) = put else {
-                    over = true;
-                    continue;
-                };
-                count = total;
             }
             Step::Purge(stamp, place) => {
                 let found = Found::Whole(stamp, place);
