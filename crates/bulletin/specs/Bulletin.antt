@@ -5,8 +5,8 @@ use mathlib.Core.Bool.{Bool, cond, _&&_}
 use mathlib.Core.Option.{Option, none, some}
 use lib.ListN.{length}
 use lib.Dec.{leb}
-use Rattle.refusal.specs.Numbers.{Reason, wrongLength, wrongHeading, wrongIdentifier, wrongTime}
-use Rattle.refusal.specs.Answer.{Answer, ok, refused, andThen}
+use Rattle.refusal.specs.Numbers.{wrongLength, wrongHeading, wrongIdentifier, wrongTime}
+use Rattle.refusal.specs.Answer.{Answer, ok, refused, must, andThen}
 use Rattle.lines.specs.Lines.{Line, linesOf}
 use Rattle.lines.specs.Check.{checkText}
 use Rattle.calendar.specs.Calendar.{isIssueMonth, minuteOf}
@@ -22,10 +22,6 @@ textMost = 16384
 
 unfoldable pub isLength : List ℕ → Bool
 isLength text = leb 1 (length text) && leb (length text) textMost
-
--- a test that must hold
-abbrev pub must : Bool → Reason → ℕ → Answer Unit
-must t reason place = cond t (ok tt) (refused reason place)
 
 -- line 1
 abbrev pub headed : Option Heading → Answer Heading

@@ -7,11 +7,11 @@ use Rattle.calendar.specs.Calendar.{isIssueMonth, minuteOf}
 use Rattle.heading.specs.Heading.{Heading}
 use Rattle.heading.specs.Paper.{paperHeading}
 use mathlib.Core.List.{List}
-use Rattle.refusal.specs.Answer.{Answer, ok, andThen, paperRefusal}
+use Rattle.refusal.specs.Answer.{Answer, ok, must, andThen, paperRefusal}
 use Rattle.lines.specs.Lines.{Line, linesOf}
 use Rattle.heading.specs.declared.Storm.{Storm}
 use Rattle.bulletin.specs.Search.{later, linesOn}
-use Rattle.bulletin.specs.Bulletin.{isLength, must, line1, line2, issued}
+use Rattle.bulletin.specs.Bulletin.{isLength, line1, line2, issued}
 use Rattle.bulletin.specs.declared.Topped.{Topped}
 use Rattle.bulletin.specs.declared.Topped.the-variants as topped
 use Rattle.bulletin.specs.declared.Stormed.{Stormed}

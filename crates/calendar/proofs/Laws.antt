@@ -9,7 +9,7 @@ use mathlib.Core.Option.{Option, none, some}
 use lib.Dec.{leb, ltb, eqb}
 use borrow.Author.Tests.{leb-true, ltb-true, ltb-false, lt-ltb, le-leb, eq-eqb, eqb-true, eqb-false}
 use Rattle.laws.proofs.Tests.{by, by-order, impossible, apart, either-way, and-left, and-right}
-use Rattle.laws.proofs.Tables.{every-at}
+use Rattle.laws.proofs.Tables.{every, every-at}
 use Rattle.calendar.specs.declared.Stamp.{Stamp}
 use Rattle.calendar.specs.declared.Date.{Date}
 use Rattle.calendar.specs.Calendar.{leap, monthLength, monthNumber, yearOf, monthOfYear, daysIn, isIssueMonth, issueMonths, allMonths, startOf, isTime, minuteIn, dayExists, isMonth, minuteOf, monthFrom, monthOf, stampAfter, dateIn, dateOf}
@@ -39,7 +39,7 @@ abbrev pub lengths : List ℕ
 lengths = 31 ∷ 28 ∷ 31 ∷ 30 ∷ 31 ∷ 30 ∷ 31 ∷ 31 ∷ 30 ∷ 31 ∷ 30 ∷ 31 ∷ []
 
 days-in : (k : ℕ) → inMonth (daysIn k) ≡ true
-unfolding daysIn monthLength
+unfolding daysIn monthLength every
 days-in k =
     either-way (λ (x : ℕ). inMonth x ≡ true) (eqb (monthOfYear k) 2 && leap (yearOf k))
     refl

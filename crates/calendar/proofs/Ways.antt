@@ -11,7 +11,7 @@ use mir.Syntax.{w64}
 use mir.Val.{Fits}
 use borrow.Author.Tests.{leb-true, ltb-true, lt-ltb, le-ltb, le-leb, lt-leb, ne-eqb, eq-eqb, eqb-true, not-true, not-false}
 use Rattle.laws.proofs.Tests.{by, by-order, impossible, apart, and-left, and-right, same-test}
-use Rattle.laws.proofs.Tables.{every-at}
+use Rattle.laws.proofs.Tables.{every, every-at}
 use Rattle.calendar.specs.declared.Stamp.{Stamp}
 use Rattle.calendar.specs.declared.Date.{Date}
 use Rattle.calendar.specs.declared.Month.{Month}
@@ -42,6 +42,7 @@ module _ (year month : ℕ) where
     length-none k = sym (List·getD-eq-default (0 ∷ lengths) 0 k) ∙ length-plain
 
 pub length-most : (month : ℕ) → month < 13 → getD (0 ∷ lengths) month 0 ≤ 31
+unfolding every
 length-most month h = leb-true _ 31 (every-at (λ x. leb x 31) (0 ∷ lengths) 0 month refl h)
 
 -- ---- is_month

@@ -11,7 +11,7 @@ use borrow.Author.Tests.{eqb-true, eq-eqb}
 use Rattle.laws.proofs.Tests.{by, by-order, apart}
 use Rattle.refusal.specs.Numbers.{wrongLength, notSound, noDraft, noSuchSegment, outOfRange, notTaken}
 use Rattle.refusal.specs.Answer as refusal
-use Rattle.refusal.specs.Answer.{ok, no, andThen, paperVerdict, paperRefusal}
+use Rattle.refusal.specs.Answer.{ok, no, must, andThen, paperVerdict, paperRefusal}
 use Rattle.refusal.specs.declared.Refusal.{Refusal}
 use Rattle.refusal.specs.declared.Verdict.the-variants.{Accepted, Refused}
 use Rattle.codes.specs.Places.{capacity}
@@ -27,7 +27,7 @@ use Rattle.layout.specs.Layout.{copiesOf, bytesOf, bookOf}
 use Rattle.layout.specs.Sound.{isSound}
 use Rattle.layout.specs.Rule.{leaving, onBytes}
 use Rattle.layout.proofs.ForthIndex.{or-closed}
-use Rattle.drafts.specs.Admission.{must, isOpen, exists, admission}
+use Rattle.drafts.specs.Admission.{isOpen, exists, admission}
 use Rattle.drafts.specs.Copies.{indexOf, blockIn, copyBlock, Admitted}
 use Rattle.drafts.proofs.Finds.{open-far}
 use Rattle.drafts.proofs.Copies.{Indexed, index-some, index-none}
@@ -171,7 +171,7 @@ as-answer e = let a = ap number-of e in let b = ap place-of e in ap₂ no a b
 
 -- what is asked of a sound book: its draft, the range, the segment
 abbrev asked : Draft → Bool → Option Content → refusal.Answer Unit
-asked x r h = andThen (must (isOpen x) noDraft) λ _. andThen (must r outOfRange) λ _. must (exists h) noSuchSegment
+asked x r h = andThen (must (isOpen x) noDraft 0) λ _. andThen (must r outOfRange 0) λ _. must (exists h) noSuchSegment 0
 
 module _ (l : List ℕ) (d s : ℕ) where
   short-asks : (r : Bool) → eqb (length l) bookLength ≡ false → admission l d r s ≡ refusal.refused wrongLength 0

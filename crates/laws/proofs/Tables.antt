@@ -8,11 +8,12 @@ use lib.ListN.{length, getD}
 use Rattle.laws.proofs.Tests.{impossible, and-left, and-right}
 
 -- every entry passes the test
-abbrev pub every : (ℕ → Bool) → List ℕ → Bool
+unfoldable pub every : {A : Type 0} → (A → Bool) → List A → Bool
 every p [] = true
 every p (x ∷ xs) = p x && every p xs
 
 pub every-at : (p : ℕ → Bool) (xs : List ℕ) (d i : ℕ) → every p xs ≡ true → i < length xs → p (getD xs i d) ≡ true
+unfolding every
 every-at p [] d i e h = impossible (omega arith)
 every-at p (x ∷ xs) d zero e h = and-left (p x) (every p xs) e
 every-at p (x ∷ xs) d (suc i) e h = every-at p xs d i (and-right (p x) (every p xs) e) (omega arith)

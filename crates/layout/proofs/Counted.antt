@@ -12,7 +12,7 @@ use Rattle.laws.proofs.Tests.{impossible, and-left, and-right, by-order}
 use Rattle.laws.proofs.Lists.{All, all-nil, all-cons}
 use Rattle.codes.specs.Places.{upward}
 use Rattle.blocks.specs.Block.{flat}
-use Rattle.layout.specs.Sound.{every}
+use Rattle.laws.proofs.Tables.{every}
 
 module _ {A : Type 0} (f : ℕ → A) where
   -- how many there are

@@ -18,7 +18,8 @@ use Rattle.blocks.proofs.Forms.{slice-zero, sealed-checked}
 use Rattle.steps.specs.Book.{closed, Book}
 use Rattle.steps.specs.Calls.{stepsMost}
 use Rattle.layout.specs.Layout.{draftBytes, stepBytes, partOf, indexBytes, blockBytes, bytesOf}
-use Rattle.layout.specs.Sound.{isIssue, every, isDraftAt, isStepAt, isIndex, used, isGood, isSound, Sound}
+use Rattle.laws.proofs.Tables.{every}
+use Rattle.layout.specs.Sound.{isIssue, isDraftAt, isStepAt, isIndex, used, isGood, isSound, Sound}
 use Rattle.layout.proofs.Items.{every-upward}
 use Rattle.layout.proofs.ForthIndex.{index-length, index-issue, index-count, index-gap, index-draft, index-steps, index-mid, index-step, index-rest}
 use Rattle.layout.proofs.ForthBlocks.{block-at, bytes-length}

@@ -14,7 +14,8 @@ use Rattle.blocks.specs.Block.{bookLength, numberAt, allZero, checked, blockOf}
 use Rattle.blocks.proofs.Blocks.{byte-of}
 use Rattle.blocks.proofs.Forms.{zero-in}
 use Rattle.steps.specs.Calls.{stepsMost}
-use Rattle.layout.specs.Sound.{isIssue, every, isDraftAt, isStepAt, isIndex, isGood, isSound}
+use Rattle.laws.proofs.Tables.{every}
+use Rattle.layout.specs.Sound.{isIssue, isDraftAt, isStepAt, isIndex, isGood, isSound}
 use Rattle.layout.proofs.Counted.{every-up}
 use Rattle.layout.proofs.Says.{DraftSays, draft-says, StepSays, step-says}
 

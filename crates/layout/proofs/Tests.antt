@@ -14,7 +14,8 @@ use Rattle.codes.specs.Places.{upward}
 use Rattle.blocks.specs.Block.{numberAt, blockOf, bookLength}
 use Rattle.blocks.specs.Content.{isUsed, isUnused}
 use Rattle.steps.specs.Calls.{stepsMost}
-use Rattle.layout.specs.Sound.{isIssue, every, isIndex, used, isGood, isSound}
+use Rattle.laws.proofs.Tables.{every}
+use Rattle.layout.specs.Sound.{isIssue, isIndex, used, isGood, isSound}
 
 -- ---- a test of all numbers from one on
 upward-step : (i n : ℕ) → i < n → upward i (n - i) ≡ i ∷ upward (i + 1) (n - (i + 1))

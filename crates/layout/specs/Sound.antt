@@ -7,6 +7,7 @@ use lib.ListN.{length, getD}
 use lib.Seq.{slice}
 use lib.Dec.{leb, ltb, eqb}
 use Rattle.laws.proofs.Lists.{All}
+use Rattle.laws.proofs.Tables.{every}
 use Rattle.calendar.specs.Calendar.{startOf, issueMonths}
 use Rattle.codes.specs.Places.{upward}
 use Rattle.codes.specs.Block.{Content}
@@ -31,10 +32,6 @@ isDraft n isOpen first second stale =
 -- "a step's first segment is not 0, its segments exist"; they ascend strictly
 unfoldable pub isStep : ℕ → ℕ → ℕ → Bool
 isStep n first second = leb 1 first && leb first n && (eqb second 0 || (ltb first second && leb second n))
-
-unfoldable pub every : {A : Type 0} → (A → Bool) → List A → Bool
-every p [] = true
-every p (x ∷ xs) = p x && every p xs
 
 unfoldable pub isDraftAt : List ℕ → ℕ → Bool
 isDraftAt b d = isDraft (getD b 4 0) (getD b (8 + 4 * d) 0) (getD b (9 + 4 * d) 0) (getD b (10 + 4 * d) 0) (getD b (11 + 4 * d) 0)

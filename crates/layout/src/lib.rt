@@ -7,7 +7,8 @@ ghost use Rattle.calendar.specs.Window.{WindowOf};
 ghost use Rattle.codes.specs.Places.{upward};
 ghost use Rattle.blocks.specs.Block.{blockLength, blockCount, bookLength, numberAt};
 ghost use Rattle.steps.specs.Calls.{stepsMost};
-ghost use Rattle.layout.specs.Sound.{isDraft, isStep, every, isDraftAt, isStepAt, isIndex, used, isGood, isSound};
+ghost use Rattle.laws.proofs.Tables.{every};
+ghost use Rattle.layout.specs.Sound.{isDraft, isStep, isDraftAt, isStepAt, isIndex, used, isGood, isSound};
 
 // Segments that changed, ascending.
 pub enum Changed {

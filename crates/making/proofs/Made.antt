@@ -7,14 +7,14 @@ use mathlib.Core.List.{List, [], _∷_}
 use lib.ListN.{length}
 use Rattle.laws.proofs.Tests.{by, apart}
 use Rattle.laws.proofs.Lists.{All, all-nil, all-cons, all-map}
-use Rattle.refusal.specs.Answer.{Answer, ok, no, refused, andThen}
+use Rattle.refusal.specs.Answer.{Answer, ok, no, refused, must, andThen}
 use Rattle.lines.specs.Lines.{Line, linesOf, blank, isEnd, opens}
 use Rattle.codes.specs.Block.{Content, contentAt}
 use Rattle.bulletin.specs.Search.{fromFirst, later, closes}
 use Rattle.bulletin.specs.Mnd.{pastMnd}
 use Rattle.bulletin.specs.Segments as segments
 use Rattle.bulletin.specs.Segments.{Segment, ended, opened, ninth, segmentsFrom, segmentsOf, fromLine3, firstLines, most}
-use Rattle.bulletin.specs.Bulletin.{Bulletin, must, issued, readBulletin}
+use Rattle.bulletin.specs.Bulletin.{Bulletin, issued, readBulletin}
 use Rattle.refusal.specs.Numbers.{wrongTime, wrongBlock}
 use Rattle.calendar.specs.Calendar.{isIssueMonth, minuteOf}
 use Rattle.calendar.specs.declared.Stamp.{Stamp}

@@ -12,7 +12,7 @@ use Rattle.codes.proofs.Sets.{set-is}
 use Rattle.laws.proofs.Tests.{by, apart}
 use Rattle.laws.proofs.Lists.{All, all-nil, all-cons, all-map}
 use Rattle.refusal.specs.Numbers.{Reason, wrongTime, tooManyPlaces}
-use Rattle.refusal.specs.Answer.{ok, refused}
+use Rattle.refusal.specs.Answer.{ok, refused, must}
 use Rattle.calendar.specs.Calendar.{yearOf, monthOfYear, issueMonths, isIssueMonth, startOf, minuteOf, stampAfter, monthOf, dateIn, dateOf}
 use Rattle.calendar.specs.declared.Date.{Date}
 use Rattle.calendar.specs.declared.Stamp.{Stamp}
@@ -25,7 +25,7 @@ use Rattle.blocks.specs.Content.{isContent}
 use Rattle.keeping.proofs.Keeping.{new-sound}
 use Rattle.layout.specs.Sound.{isIssue, Fine, Sound}
 use Rattle.bulletin.specs.Segments.{Segment}
-use Rattle.bulletin.specs.Bulletin.{Bulletin, must, issued, readBulletin}
+use Rattle.bulletin.specs.Bulletin.{Bulletin, issued, readBulletin}
 use Rattle.making.specs.Make.{bookFrom}
 use Rattle.making.proofs.Openings.{Opens, opened-long}
 use Rattle.making.proofs.Made.{Stands, read-back, segmented}

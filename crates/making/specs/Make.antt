@@ -7,13 +7,13 @@ use mathlib.Core.Option.{Option, none, some}
 use lib.ListN.{length}
 use lib.Dec.{eqb}
 use Rattle.refusal.specs.Numbers.{wrongLength, notSound, noSuchSegment}
-use Rattle.refusal.specs.Answer.{Answer, ok, no, refused, andThen, paperVerdict}
+use Rattle.refusal.specs.Answer.{Answer, ok, no, refused, must, andThen, paperVerdict}
 use Rattle.refusal.specs.declared.Verdict.{Verdict}
 use Rattle.codes.specs.Block.{Content}
 use Rattle.writing.specs.Write.{writeRule, lengthOf, outputOf, paperWritten}
 use Rattle.writing.specs.declared.Written.{Written}
 use Rattle.bulletin.specs.Segments.{Segment}
-use Rattle.bulletin.specs.Bulletin.{Bulletin, must, readBulletin}
+use Rattle.bulletin.specs.Bulletin.{Bulletin, readBulletin}
 use Rattle.blocks.specs.Block.{bookLength}
 use Rattle.steps.specs.Book.{Book, at, newBook}
 use Rattle.layout.specs.Layout.{bytesOf, bookOf}

@@ -25,7 +25,8 @@ use Rattle.layout.specs.declared.Changed.the-variants as changed
 use Rattle.layout.specs.declared.Reply.{Reply}
 use Rattle.layout.specs.declared.Reply.the-variants as reply
 use Rattle.making.specs.Make.{makeRule, madeAnswer, madeBytes, Makes, writeOn, WritesOn}
-use Rattle.plugin.specs.Packing.{cell, pack, packed, bit, nothing, plain, spelled, valueBits, restEnd, startEnd, lengthEnd, viewBits, idBits, stormBits}
+use Rattle.layout.specs.Layout.{bit}
+use Rattle.plugin.specs.Packing.{cell, pack, packed, nothing, plain, spelled, valueBits, restEnd, startEnd, lengthEnd, viewBits, idBits, stormBits}
 
 -- the number that the code builds
 pub cell-is : (low rest : ℕ) → low % 256 + 256 * (rest % restEnd) ≡ cell low rest

@@ -12,7 +12,7 @@ use borrow.Author.Tests.{ltb-true}
 use Rattle.laws.proofs.Tests.{by, apart, either-way}
 use Rattle.laws.proofs.Lists.{All, all-nil, all-cons, all-append}
 use Rattle.refusal.specs.Numbers.{Reason, wrongText, wrongTime, wrongBlock, noSegment, noEnd, ninthSegment, tooManyPlaces}
-use Rattle.refusal.specs.Answer.{Answer, ok, no, refused, refusedAt, andThen}
+use Rattle.refusal.specs.Answer.{Answer, ok, no, refused, refusedAt, must, andThen}
 use Rattle.lines.specs.Bytes.{lf}
 use Rattle.lines.specs.Lines.{glue, pieces, lineEnd, bodyOf, Line, linesAt, linesFrom, linesOf, blank, isEnd, opens}
 use Rattle.lines.specs.declared.Span.{Span}
@@ -27,7 +27,6 @@ use Rattle.bulletin.specs.Search.{fromFirst, upToFirst, later, closes}
 use Rattle.bulletin.specs.Mnd.{pastMnd}
 use Rattle.bulletin.specs.Segments as segments
 use Rattle.bulletin.specs.Segments.{Segment, pastBlock, opened, ninth, segmentsFrom, fromLine3, firstLines, most, segmentsOf}
-use Rattle.bulletin.specs.Bulletin.{must}
 use Rattle.plugin.proofs.Kept.{reason-byte}
 
 -- ---- lines

@@ -12,6 +12,7 @@ use Rattle.heading.specs.declared.StormId.{StormId}
 use Rattle.heading.specs.declared.Storm.{Storm}
 use Rattle.heading.specs.declared.Storm.the-variants.{None, Found}
 use Rattle.bulletin.specs.declared.Segment.{Segment}
+use Rattle.layout.specs.Layout.{bit}
 use Rattle.steps.specs.Calls as calls
 use Rattle.steps.specs.Calls.{Value, draft, done, number, was, changed, Edit, readPurge, readCount, readPlace, add, remove, setPurge, Work, taking, editing, Call, opening, on, commit, undo}
 
@@ -46,10 +47,6 @@ unspelled zero r = []
 unspelled (suc n) r = cond (eqb r 0) [] (r % 256 ∷ unspelled n (r / 256))
 
 -- ---- the values of a book's calls
-abbrev pub bit : Bool → ℕ
-bit true = 1
-bit false = 0
-
 unfoldable pub valueBits : Value → ℕ
 valueBits (draft d) = d
 valueBits done = 0

@@ -15,7 +15,7 @@ ghost use Rattle.layout.specs.Rule.{onBytes, segmentsOf, paperReply};
 ghost use Rattle.making.specs.Make.{makeRule, madeAnswer, madeBytes, writeOn};
 ghost use Rattle.plugin.specs.Packing.{cell, pack, packed, nothing, plain, spelled, basinNumber, classNumber, idBits, stormBits, viewBits};
 ghost use Rattle.heading.specs.Paper.{paperBbb};
-ghost use Rattle.plugin.specs.Packing as packing;
+ghost use Rattle.layout.specs.Layout as layouts;
 ghost use Rattle.plugin.specs.Rules.{issueIn, countIn, bbbIn, identifierIn, stormBitsIn, viewBitsOf, blockEndOf, purgeOf, countOf, placeOf, placeIn};
 use bulletin::Reading;
 use bulletin::Viewed;
@@ -52,7 +52,7 @@ fn spell(changed: Changed) -> usize
 }
 
 fn bit(there: bool) -> usize
-    ensures { λ r. ⌜ r ≡ packing.bit there ⌝ }
+    ensures { λ r. ⌜ r ≡ layouts.bit there ⌝ }
 {
     if there { 1 } else { 0 }
 }

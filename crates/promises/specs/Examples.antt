@@ -15,6 +15,7 @@ use Rattle.calendar.specs.declared.Stamp.{Stamp}
 use Rattle.calendar.specs.declared.Date.{Date}
 use Rattle.codes.specs.Places.{placeOf, prefixOf, threeOf, placeBytes}
 use Rattle.codes.specs.Block.{Content, contentAt}
+use Rattle.blocks.specs.Block.{sameList}
 use Rattle.writing.specs.Write.{blockOf}
 use Rattle.heading.specs.declared.Class.{Class}
 use Rattle.heading.specs.declared.Class.the-variants.{Cyclone, Internal, Training, Disturbance}
@@ -59,12 +60,6 @@ same none (some n) = false
 same (some m) none = false
 same (some m) (some n) = eqb m n
 
-unfoldable pub sameBytes : List ℕ → List ℕ → Bool
-sameBytes [] [] = true
-sameBytes [] (c ∷ t) = false
-sameBytes (b ∷ s) [] = false
-sameBytes (b ∷ s) (c ∷ t) = eqb b c && sameBytes s t
-
 -- ---- what a row says
 abbrev pub under : Option ℕ → Stamp → Option ℕ
 under none s = none
@@ -83,7 +78,7 @@ refuses r (ok c) = false
 refuses r (no number at) = eqb number r && eqb at 0
 
 abbrev pub isBlock : List ℕ → Answer (List ℕ) → Bool
-isBlock text (ok block) = sameBytes block text
+isBlock text (ok block) = sameList block text
 isBlock text (no number at) = false
 
 abbrev pub writtenAs : String → Answer Content → Bool
@@ -98,7 +93,7 @@ abbrev pub bulletin : String → String → Answer Bulletin
 bulletin bbb end = readBulletin (bulletinWith bbb end) 2002 4
 
 abbrev pub hasBbb : String → Answer Bulletin → Bool
-hasBbb bbb (ok b) = sameBytes (b .heading .bbb) (bytes bbb)
+hasBbb bbb (ok b) = sameList (b .heading .bbb) (bytes bbb)
 hasBbb bbb (no number at) = false
 
 -- a class by its first number: no two classes have the same
@@ -123,7 +118,7 @@ refusedWith r start (no number at) = eqb number r && eqb at start
 abbrev pub holds : Row → Bool
 holds (minute d m) = same (minuteOf d) (some m)
 holds (purge issued s m) = same (under (minuteOf issued) s) m
-holds (place text n) = eqb (placeOf (prefixOf (bytes text)) (threeOf (drop 3 (bytes text)))) n && sameBytes (placeBytes n) (bytes text)
+holds (place text n) = eqb (placeOf (prefixOf (bytes text)) (threeOf (drop 3 (bytes text)))) n && sameList (placeBytes n) (bytes text)
 holds (rewritten text n block long) = counts n (content text) && writtenAs block (content text) && eqb (length (bytes block)) long
 holds (fits text n) = counts n (content text)
 holds (refusedBlock text r) = refuses (numberOf r) (content text)

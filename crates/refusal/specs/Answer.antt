@@ -1,5 +1,6 @@
 -- What document 01 says of a call's answer: it is accepted with its values, or it is refused with a number and a place.
 use Prim.Native.Nat.{ℕ}
+use mathlib.Core.Bool.{Bool, cond}
 use mathlib.Core.Option.{Option, none, some}
 use Rattle.refusal.specs.Numbers.{Reason, numberOf}
 use Rattle.refusal.specs.declared.Refusal.{Refusal}
@@ -18,6 +19,10 @@ refused reason place = no (numberOf reason) place
 abbrev pub refusedAt : Reason → Option ℕ → Answer Unit
 refusedAt reason none = ok tt
 refusedAt reason (some place) = refused reason place
+
+-- a test that must hold
+abbrev pub must : Bool → Reason → ℕ → Answer Unit
+must t reason place = cond t (ok tt) (refused reason place)
 
 -- what comes next in the order of refusals: nothing after a refusal
 unfoldable pub andThen : {A B : Type 0} → Answer A → (A → Answer B) → Answer B

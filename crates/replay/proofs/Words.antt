@@ -14,7 +14,8 @@ use Rattle.laws.proofs.Tests.{by, by-order, apart}
 use Rattle.laws.proofs.Stores.{push-text}
 use Rattle.lines.specs.Bytes.{digit}
 use Rattle.lines.specs.Lines.{glue}
-use Rattle.replay.specs.Lines.{mostDigits, every, isNumber, decimal, words, onto, numbersIn, behind, numbersOf, CallLine, called, callLine, upTo, front, numberAt, paperLine}
+use Rattle.laws.proofs.Tables.{every}
+use Rattle.replay.specs.Lines.{mostDigits, isNumber, decimal, words, onto, numbersIn, behind, numbersOf, CallLine, called, callLine, upTo, front, numberAt, paperLine}
 use Rattle.replay.specs.declared.Line.{Line}
 use Rattle.replay.specs.declared.Number.{Number}
 

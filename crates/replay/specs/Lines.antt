@@ -5,6 +5,7 @@ use mathlib.Core.Bool.{Bool, true, cond, _&&_}
 use mathlib.Core.Option.{Option, none, some}
 use lib.ListN.{length, take, drop}
 use lib.Dec.{eqb, leb, ltb}
+use Rattle.laws.proofs.Tables.{every}
 use Rattle.lines.specs.Bytes.{Kind, lf, digit, word, begins}
 use Rattle.lines.specs.Lines.{glue}
 use Rattle.lines.specs.Spans.{part}
@@ -19,10 +20,6 @@ use Rattle.replay.specs.declared.Opening.the-variants.{Case, Wrong}
 -- ---- numbers: "Numbers are unsigned decimal, 1 to 10 digits, single spaces between."
 abbrev pub mostDigits : ℕ
 mostDigits = 10
-
-unfoldable pub every : Kind → List ℕ → Bool
-every k [] = true
-every k (b ∷ s) = k b && every k s
 
 unfoldable pub isNumber : List ℕ → Bool
 isNumber w = ltb 0 (length w) && leb (length w) mostDigits && every digit w

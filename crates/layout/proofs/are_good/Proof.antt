@@ -4,7 +4,8 @@ use mathlib.Core.Path.{subst}
 use borrow.Author.Needs.{needs}
 use Rattle.calendar.specs.Window.{WindowOf}
 use Rattle.codes.specs.Places.{upward}
-use Rattle.layout.specs.Sound.{every, isGood}
+use Rattle.laws.proofs.Tables.{every}
+use Rattle.layout.specs.Sound.{isGood}
 use Rattle.layout.proofs.Tests.{Scan, scan-start, scan-end, scan-no, scan-on}
 use Rattle.layout.proofs.are_good.Statement.{statement}
 use Rattle.layout.proofs.are_good.Tie as tie
