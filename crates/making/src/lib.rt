@@ -51,7 +51,7 @@ fn wrong(number: usize) -> Verdict
     Verdict::Refused(Refusal { number, place: 0 })
 }
 
-// Makes a book of a bulletin, read under a year and a month.
+// Makes a book of a bulletin, read under a year and a month. Reading keeps the places, so that each block of the text is read once.
 pub fn make(book: &mut [u8], text: &[u8], year: usize, month: usize) -> Verdict
     ensures { λ r. ⌜ Makes (now (book .entry)) (now (book .exit)) (now (text .entry)) year month r ⌝ }
 {

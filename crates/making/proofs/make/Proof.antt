@@ -4,11 +4,6 @@ use borrow.Author.Needs.{needs}
 use Rattle.making.proofs.make.Statement.{statement}
 use Rattle.making.proofs.make.Tie as tie
 
-fill-requires : tie.Need-fill-requires
-fill-requires c κs =
-    let cleared = c .before .before .before .before .clear-book .ensures in
-    (filled-none _ (cleared .0) (cleared .1), (search needs, (search needs, search (make-storable, needs))))
-
 pub make-spec : {M : Type 1} → statement M
 make-spec =
     tie.close
@@ -21,7 +16,7 @@ make-spec =
     (λ c. search needs)
     (λ c κs. search needs)
     (λ c. search needs)
-    fill-requires
+    (λ c κs. (search (filled-none, needs), (search needs, (search needs, search (make-storable, needs)))))
     (λ c κs. (search needs, search needs, search (make-issue, needs)))
     (λ c. search (make-refused, needs))
     (λ c. search needs)
