@@ -4,7 +4,6 @@ pub mod Blocks
 pub mod Numbers
 pub mod Forms
 pub mod Contents
-pub mod Climbs
 pub mod Scans
 pub mod Used
 pub mod Unused

@@ -13,9 +13,9 @@ use lib.Dec.{eqb, ltb}
 use borrow.Author.Tests.{eqb-true, eq-eqb, ne-eqb}
 use Rattle.laws.proofs.Tests.{same-test, and-left, and-right}
 use Rattle.codes.specs.Places.{ascends, placesEnd}
+use Rattle.codes.proofs.Climbs.{Climbs, climbs-start, climbs-on, climbs-done}
 use Rattle.blocks.specs.Block.{sumTo, checkOf, checked, allZero, numberAt, numbersOf, sameList}
 use Rattle.blocks.proofs.Numbers.{number-drop, numbers-length, numbers-at}
-use Rattle.blocks.proofs.Climbs.{Climbs, climbs-start, climbs-on, climbs-done}
 
 -- ---- the check: the sum over the bytes from `from` up to i
 pub record Summed (b : List ℕ) (from to i sum : ℕ) : Type 0 where

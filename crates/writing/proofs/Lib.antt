@@ -1,5 +1,5 @@
 pub mod Ink
-pub mod Rising
+pub mod Sets
 pub mod Spelling
 pub mod Inking
 pub mod Turning

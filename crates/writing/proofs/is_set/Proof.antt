@@ -1,12 +1,13 @@
 use Prim.Native.Nat.{_-_}
 use lib.ListN.{length}
 use borrow.Author.Needs.{needs}
-use Rattle.writing.proofs.Rising.{Rises, rises-start, rises-on, set-short, set-long, rises-end}
+use Rattle.codes.proofs.Climbs.{Climbs, climbs-start, climbs-on}
+use Rattle.writing.proofs.Sets.{set-short, set-long, set-done}
 use Rattle.writing.proofs.is_set.Statement.{statement}
 use Rattle.writing.proofs.is_set.Tie as tie
 
 abbrev Inv-loop : tie.InvT-loop
-Inv-loop places n good₀ i₀ good i = Rises places good i
+Inv-loop places n good₀ i₀ good i = Climbs places i good
 
 abbrev μ-loop : tie.MeasureT-loop
 μ-loop places n good₀ i₀ good i = length places - i
@@ -19,7 +20,7 @@ is-set-spec =
     μ-loop
     (λ c. search (set-short, needs))
     (λ c. search (set-long, needs))
-    (λ c. search (rises-start, needs))
+    (λ c. search (climbs-start, needs))
     (λ c. search needs)
     (λ c. search needs)
     (λ c. search needs)
@@ -27,7 +28,7 @@ is-set-spec =
     (λ c. search needs)
     (λ c. search needs)
     (λ c. search needs)
-    (λ c. search (rises-on, needs))
+    (λ c. search (climbs-on, needs))
     (λ c. search needs)
     (λ c. search needs)
-    (λ c. search (rises-end, needs)))
+    (λ c. search (set-done, needs)))
