@@ -128,15 +128,9 @@ cut-join (b ∷ bs) w =
     ∙ ap (λ (r : List ℕ). b ∷ cut (length bs) r) (drop-at b (join bs) 512 (w .0))
     ∙ ap (λ (r : List (List ℕ)). b ∷ r) (cut-join bs (w .1))
 
--- ---- what callers cite: a store of a block is a store in the list of blocks
+-- ---- what callers cite: a store of a block is read back, and leaves the other blocks alone
 
 module _ (n i : ℕ) (l b : List ℕ) (h : i < n) (k : length l ≡ n * 512) (e : length b ≡ 512) where
-  fits : i * 512 + 512 ≤ length l
-  fits = omega arith
-
-  pub put-join : putBlock i b l ≡ join (set (cut n l) i b)
-  put-join = sym (join-cut n (putBlock i b l) (put-length i l b fits e ∙ k)) ∙ ap join (cut-put n i l b h (omega arith) e)
-
   pub put-same-block : blockOf i (putBlock i b l) ≡ b
   put-same-block =
       sym (cut-at n i (putBlock i b l) h) ∙ ap (λ (z : List (List ℕ)). getD z i []) (cut-put n i l b h (omega arith) e)

@@ -18,7 +18,7 @@ use Rattle.blocks.specs.Block.{blockLength, bytes32, numberAt, numbersOf
 use Rattle.blocks.specs.Content.{contentBytes, holding, contentOf, isContent, isUsed, isUnused}
 use Rattle.blocks.proofs.Chunks.{set-append-right, flat-length}
 use Rattle.blocks.proofs.Seals.{sealed-length, sealed-at}
-use Rattle.blocks.proofs.Numbers.{Bytes, bytes-cons, bytes-drop, bytes-append, bytes-set, bytes-zeros, bytes-number, bytes-numbers, number-forth, first4, word-back, numbers-length, numbers-back}
+use Rattle.blocks.proofs.Numbers.{Bytes, bytes-drop, number-forth, first4, word-back, numbers-length, numbers-back}
 use Rattle.blocks.proofs.Forms.{slice-zero, zero-in, sealed-checked, sealed-form}
 
 -- ---- the same bytes
@@ -64,29 +64,6 @@ unused-length = sealed-length (replicate blockLength 0) ∙ length-replicate {A 
 pub holding-length : (o : Option Content) → ((c : Content) → o ≡ some c → length (c .places) ≤ capacity) → length (holding o) ≡ blockLength
 holding-length none h = unused-length
 holding-length (some c) h = used-length c (h c refl)
-
--- ---- bytes
--- a seal is bytes
-pub seal-bytes : (b : List ℕ) → Bytes b → Bytes (sealed b)
-unfolding sealed
-seal-bytes b y = bytes-set (set b 510 (checkOf b % 256)) 511 (checkOf b / 256 % 256) (omega arith) (bytes-set b 510 (checkOf b % 256) (omega arith) y)
-
--- a used block is bytes
-pub content-bytes : (c : Content) → length (c .places) ≤ capacity → Bytes (holding (some c))
-unfolding holding contentBytes
-content-bytes c h =
-    let n : ℕ = length (c .places) in
-    let zeros : Bytes (0 ∷ 0 ∷ 0 ∷ []) = bytes-zeros 3 in
-    let head : Bytes (bytes32 (c .purge) ++ (n ∷ 0 ∷ 0 ∷ 0 ∷ [])) =
-    bytes-append (bytes32 (c .purge)) (n ∷ 0 ∷ 0 ∷ 0 ∷ []) (bytes-number (c .purge)) (bytes-cons n (0 ∷ 0 ∷ 0 ∷ []) (omega arith) zeros) in
-    let body : Bytes (flat bytes32 (c .places) ++ replicate (504 - 4 * n) 0) =
-    bytes-append (flat bytes32 (c .places)) (replicate (504 - 4 * n) 0) (bytes-numbers (c .places)) (bytes-zeros (504 - 4 * n)) in
-    seal-bytes (contentBytes c) (bytes-append _ _ head body)
-
--- an unused one is bytes
-pub unused-bytes : Bytes (holding none)
-unfolding holding
-unused-bytes = seal-bytes (replicate blockLength 0) (bytes-zeros blockLength)
 
 -- ---- what the tests say
 -- a sound content

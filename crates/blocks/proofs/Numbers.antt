@@ -4,9 +4,9 @@ use mathlib.Core.List.{List, [], _∷_, _++_}
 use Prim.Native.Nat.{ℕ, zero, suc, _+_, _*_, _/_, _%_, _≤_, _<_}
 use native.Mathlib.Nat.{zero-add, add-mul-mod-self-left, mod-eq-of-lt, mod-add-div, add-mul-div-left, div-eq-of-lt, div-div-eq-div-mul, div-lt-iff-lt-mul}
 use native.Mathlib.Omega.{arith}
-use lib.ListN.{length, take, drop, getD, set, replicate, length-drop}
+use lib.ListN.{length, take, drop, getD, length-drop}
 use lib.Seq.{getD-drop, take-add}
-use Rattle.blocks.specs.Block.{blockLength, bytes32, numberAt, numbersOf, blockOf, putBlock, flat}
+use Rattle.blocks.specs.Block.{blockLength, bytes32, numberAt, numbersOf, blockOf, flat}
 
 -- ---- bytes
 -- every element is a byte
@@ -36,47 +36,15 @@ pub bytes-drop : (n : ℕ) (l : List ℕ) → Bytes l → Bytes (drop n l)
 unfolding Bytes
 bytes-drop n l y i = rw getD-drop (y (n + i))
 
-pub bytes-append : (l m : List ℕ) → Bytes l → Bytes m → Bytes (l ++ m)
-bytes-append [] m y w = w
-bytes-append (x ∷ l) m y w = bytes-cons x (l ++ m) (byte-at (x ∷ l) 0 y) (bytes-append l m (bytes-tail x l y) w)
-
 pub bytes-take : (n : ℕ) (l : List ℕ) → Bytes l → Bytes (take n l)
 bytes-take zero l y = bytes-nil
 bytes-take (suc n) [] y = bytes-nil
 bytes-take (suc n) (x ∷ l) y = bytes-cons x (take n l) (byte-at (x ∷ l) 0 y) (bytes-take n l (bytes-tail x l y))
 
--- a byte stored
-pub bytes-set : (l : List ℕ) (i v : ℕ) → v < 256 → Bytes l → Bytes (set l i v)
-bytes-set [] i v h y = bytes-nil
-bytes-set (x ∷ l) zero v h y = bytes-cons v l h (bytes-tail x l y)
-bytes-set (x ∷ l) (suc i) v h y = bytes-cons x (set l i v) (byte-at (x ∷ l) 0 y) (bytes-set l i v h (bytes-tail x l y))
-
--- zeros, a number, and numbers
-pub bytes-zeros : (n : ℕ) → Bytes (replicate n 0)
-bytes-zeros zero = bytes-nil
-bytes-zeros (suc n) = bytes-cons 0 (replicate n 0) (omega arith) (bytes-zeros n)
-
-pub bytes-number : (v : ℕ) → Bytes (bytes32 v)
-bytes-number v =
-    bytes-cons (v % 256) _ (omega arith)
-    (bytes-cons (v / 256 % 256) _ (omega arith) (bytes-cons (v / 65536 % 256) _ (omega arith) (bytes-cons (v / 16777216 % 256) [] (omega arith) bytes-nil)))
-
-pub bytes-numbers : (vs : List ℕ) → Bytes (flat bytes32 vs)
-unfolding flat
-bytes-numbers [] = bytes-nil
-bytes-numbers (v ∷ vs) = bytes-append (bytes32 v) (flat bytes32 vs) (bytes-number v) (bytes-numbers vs)
-
--- the bytes of a book's block, and of a book with another block
+-- the bytes of a book's block
 pub bytes-block : (k : ℕ) (book : List ℕ) → Bytes book → Bytes (blockOf k book)
 unfolding blockOf
 bytes-block k book y = bytes-take blockLength (drop (k * blockLength) book) (bytes-drop (k * blockLength) book y)
-
-pub bytes-put : (k : ℕ) (b book : List ℕ) → Bytes b → Bytes book → Bytes (putBlock k b book)
-unfolding putBlock
-bytes-put k b book y w =
-    let rest : List ℕ = drop (k * blockLength) book in
-    bytes-append (take (k * blockLength) book) (b ++ drop blockLength rest) (bytes-take (k * blockLength) book w)
-    (bytes-append b (drop blockLength rest) y (bytes-drop blockLength rest (bytes-drop (k * blockLength) book w)))
 
 -- ---- a number and its bytes
 -- the low byte of a number, and the rest
@@ -109,10 +77,6 @@ number-forth p h =
     let d : p / 16777216 < 256 = div-lt-iff-lt-mul {k = 16777216} (omega arith) .1 h in
     let e : p / 16777216 % 256 ≡ p / 16777216 = mod-eq-of-lt d in
     omega arith
-
--- a number of bytes has 32 bits
-pub number-low : (l : List ℕ) (at : ℕ) → Bytes l → numberAt l at < 4294967296
-number-low l at y = omega (arith, byte-at l at y, byte-at l (at + 1) y, byte-at l (at + 2) y, byte-at l (at + 3) y)
 
 -- the first four
 pub first4 : (l : List ℕ) → 4 ≤ length l → take 4 l ≡ getD l 0 0 ∷ getD l 1 0 ∷ getD l 2 0 ∷ getD l 3 0 ∷ []

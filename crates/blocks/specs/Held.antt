@@ -1,5 +1,5 @@
 -- What the code's types mean: a content held by value.
-use Prim.Native.Nat.{ℕ, _≤_}
+use Prim.Native.Nat.{_≤_}
 use mathlib.Core.Path.{_≡_}
 use lib.ListN.{length, take}
 use Rattle.codes.specs.Places.{capacity}
