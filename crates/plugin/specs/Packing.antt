@@ -1,6 +1,6 @@
 -- An answer as one number of 64 bits, and the way back. The number's low byte is 0, and the rest is the value; or it is the refusal's number, and the rest is the place.
 use Prim.Native.Nat.{ℕ, zero, suc, _+_, _-_, _*_, _/_, _%_}
-use mathlib.Core.Bool.{Bool, true, false, cond}
+use mathlib.Core.Bool.{cond}
 use mathlib.Core.List.{List, [], _∷_}
 use lib.Dec.{eqb}
 use Rattle.refusal.specs.Answer.{Answer, ok, no}

@@ -2,9 +2,9 @@
 use Prim.Native.Nat.{ℕ, zero, suc, _+_, _-_, _*_, _≤_, _<_}
 use native.Mathlib.Numerals.{add-one}
 use native.Mathlib.Omega.{arith}
-use mathlib.Core.Path.{_≡_, refl, sym, ap, _∙_, subst}
-use mathlib.Core.List.{List, [], _∷_}
-use mathlib.Core.Bool.{Bool, true, false, cond}
+use mathlib.Core.Path.{_≡_, refl, sym, ap, _∙_}
+use mathlib.Core.List.{List}
+use mathlib.Core.Bool.{Bool, true, false}
 use lib.ListN.{length, getD, take, drop, drop-of-length-le, List·getD-eq-default}
 use lib.Seq.{drop-cons}
 use lib.Dec.{leb}
@@ -12,7 +12,7 @@ use borrow.Author.Needs.{needs}
 use borrow.Author.Tests.{leb-true}
 use mir.Syntax.{w64}
 use mir.Val.{Fits}
-use Rattle.laws.proofs.Tests.{by, by-order, apart, and-left, and-right}
+use Rattle.laws.proofs.Tests.{by-order, and-left, and-right}
 use Rattle.lines.specs.Bytes.{digit}
 use Rattle.replay.specs.Lines.{mostDigits, decimal, front, numberAt}
 use Rattle.replay.specs.declared.Number.{Number}

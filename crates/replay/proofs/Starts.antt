@@ -3,11 +3,11 @@ use Prim.Native.Nat.{ℕ, zero, suc, _+_, _-_, _≤_, _<_}
 use native.Mathlib.Omega.{arith}
 use mathlib.Core.Path.{_≡_, refl, sym, ap, _∙_}
 use mathlib.Core.List.{List, [], _∷_, _++_}
-use mathlib.Core.Bool.{Bool, true, false, cond, _&&_, and-true, and-false}
-use mathlib.Core.Option.{Option, none, some}
+use mathlib.Core.Bool.{cond, _&&_, and-false}
+use mathlib.Core.Option.{none, some}
 use lib.ListN.{length, getD, take, drop, length-drop, List·getD-eq-default}
 use lib.Seq.{drop-drop, getD-drop, take-all}
-use lib.Dec.{eqb, leb}
+use lib.Dec.{eqb}
 use borrow.Author.Tests.{eq-eqb, ne-eqb, eqb-true, eqb-false, le-leb, lt-leb}
 use Rattle.laws.proofs.Tests.{by}
 use Rattle.lines.specs.Bytes.{digit, word, begins}
@@ -16,7 +16,7 @@ use Rattle.heading.specs.Heading.{times}
 use Rattle.printing.specs.Asked.{askedOf, paperAsked}
 use Rattle.printing.specs.declared.Asked.{Asked}
 use Rattle.printing.specs.declared.Asked.the-variants as asked
-use Rattle.replay.specs.Lines.{mostDigits, decimal, lengthForm, lengthLine, startOf, front, numberAt, paperOpening, within}
+use Rattle.replay.specs.Lines.{decimal, lengthLine, startOf, front, numberAt, paperOpening, within}
 use Rattle.replay.specs.declared.Number.{Number}
 use Rattle.replay.specs.declared.Opening.{Opening}
 use Rattle.replay.specs.declared.Source.{Source}

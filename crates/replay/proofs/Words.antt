@@ -2,20 +2,19 @@
 use Prim.Native.Nat.{ℕ, zero, suc, _+_, _≤_, _<_}
 use native.Mathlib.Numerals.{add-one}
 use native.Mathlib.Omega.{arith}
-use mathlib.Core.Path.{_≡_, refl, sym, ap, _∙_, subst}
+use mathlib.Core.Path.{_≡_, refl, sym, ap, _∙_}
 use mathlib.Core.List.{List, [], _∷_, _++_, append-nil, append-assoc}
-use mathlib.Core.Bool.{Bool, true, false, cond, _&&_, and-false}
+use mathlib.Core.Bool.{Bool, true, false, cond, and-false}
 use mathlib.Core.Option.{Option, none, some}
 use lib.ListN.{length, getD, take, drop, set, length-append, drop-of-length-le, length-set}
 use lib.Seq.{drop-cons, drop-drop, length-take-le}
-use lib.Dec.{eqb, leb, ltb}
-use borrow.Author.Tests.{eq-eqb, ne-eqb, eqb-true, le-leb, lt-leb, lt-ltb, le-ltb}
+use lib.Dec.{eqb}
+use borrow.Author.Tests.{ne-eqb, eqb-true, le-leb, lt-leb, lt-ltb}
 use Rattle.laws.proofs.Tests.{by, by-order, apart}
 use Rattle.laws.proofs.Stores.{push-text}
 use Rattle.lines.specs.Bytes.{digit}
-use Rattle.lines.specs.Lines.{glue}
 use Rattle.laws.proofs.Tables.{every}
-use Rattle.replay.specs.Lines.{mostDigits, isNumber, decimal, words, onto, numbersIn, behind, numbersOf, CallLine, called, callLine, upTo, front, numberAt, paperLine}
+use Rattle.replay.specs.Lines.{mostDigits, isNumber, decimal, words, onto, numbersIn, behind, numbersOf, called, callLine, upTo, front, numberAt, paperLine}
 use Rattle.replay.specs.declared.Line.{Line}
 use Rattle.replay.specs.declared.Number.{Number}
 

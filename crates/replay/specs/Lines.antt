@@ -1,19 +1,18 @@
 -- The input of the replay program: cases, each of two lines, a bulletin and call lines.
 use Prim.Native.Nat.{ℕ, zero, suc, _+_, _-_, _*_, _≤_, _<_}
 use mathlib.Core.List.{List, [], _∷_, _++_}
-use mathlib.Core.Bool.{Bool, true, cond, _&&_}
+use mathlib.Core.Bool.{Bool, cond, _&&_}
 use mathlib.Core.Option.{Option, none, some}
 use lib.ListN.{length, take, drop}
 use lib.Dec.{eqb, leb, ltb}
 use Rattle.laws.proofs.Tables.{every}
-use Rattle.lines.specs.Bytes.{Kind, lf, digit, word, begins}
+use Rattle.lines.specs.Bytes.{Kind, digit, word, begins}
 use Rattle.lines.specs.Lines.{glue}
 use Rattle.lines.specs.Spans.{part}
 use Rattle.heading.specs.Heading.{times}
 use Rattle.printing.specs.Asked.{YearMonth, askedOf}
 use Rattle.replay.specs.declared.Number.{Number}
 use Rattle.replay.specs.declared.Line.{Line}
-use Rattle.replay.specs.declared.Source.{Source}
 use Rattle.replay.specs.declared.Opening.{Opening}
 use Rattle.replay.specs.declared.Opening.the-variants.{Case, Wrong}
 
