@@ -1,5 +1,5 @@
 -- Places that ascend: the first that is not less than p, and whether all are less. Assumes nothing.
-use Prim.Native.Nat.{ℕ, zero, suc, _-_, _≤_, _<_}
+use Prim.Native.Nat.{ℕ, zero, suc, _+_, _-_, _/_, _≤_, _<_}
 use native.Mathlib.Omega.{arith}
 use mathlib.Core.Path.{_≡_, refl}
 use mathlib.Core.List.{List, [], _∷_}
@@ -30,27 +30,39 @@ in-order (cons g f a) (suc i) (suc j) k h = in-order a i j (omega arith) (omega 
 lower : (held : List ℕ) (n p : ℕ) → Ascending 0 (take n held) → (k : ℕ) → k < n → n ≤ length held → getD held k 0 < p → (j : ℕ) → j ≤ k → getD (take n held) j 0 < p
 lower held n p rising k h fits l j g = omega (arith, in-order rising j k g (omega (arith, length-take-le n held fits)), getD-take n held k 0 h)
 
-pub record Sought (held : List ℕ) (n p i : ℕ) : Type 0 where
-  pub within : i ≤ n
-  pub high : i < n → p ≤ getD held i 0
+-- all before `low` are less, and none from `high` on
+pub record Sought (held : List ℕ) (n p low high : ℕ) : Type 0 where
+  pub within : high ≤ n
+  pub order : low ≤ high
+  pub less : (j : ℕ) → j < low → getD (take n held) j 0 < p
+  pub not-less : high < n → p ≤ getD held high 0
 
-pub sought-start : (held : List ℕ) (n p : ℕ) → Sought held n p n
-sought-start held n p = record { within = omega arith; high = λ h. impossible (omega arith) }
+pub sought-start : (held : List ℕ) (n p : ℕ) → Sought held n p 0 n
+sought-start held n p = record { within = omega arith; order = omega arith; less = λ j h. impossible (omega arith); not-less = λ h. impossible (omega arith) }
 
-module _ (held : List ℕ) (n p i : ℕ) (v : Sought held n p i) (fits : n ≤ length held) (rising : Ascending 0 (take n held)) where
-  pub sought-on : 0 < i → p ≤ getD held (i - 1) 0 → Sought held n p (i - 1)
-  sought-on h k = record { within = omega (arith, v .within); high = λ g. k }
+module _ (held : List ℕ) (n p low high : ℕ) (v : Sought held n p low high) (fits : n ≤ length held) (rising : Ascending 0 (take n held)) where
+  module _ (mid : ℕ) (is : mid ≡ low + (high - low) / 2) (h : low < high) where
+    pub sought-up : getD held mid 0 < p → Sought held n p (mid + 1) high
+    sought-up k =
+        record {
+          within = v .within;
+          order = omega arith;
+          less = λ j g. lower held n p rising mid (omega (arith, v .within)) fits k j (omega arith);
+          not-less = v .not-less
+        }
 
-  first : ((j : ℕ) → j < i → getD (take n held) j 0 < p) → First p (take n held) i
-  first k =
+    pub sought-down : p ≤ getD held mid 0 → Sought held n p low mid
+    sought-down k = record { within = omega (arith, v .within); order = omega arith; less = v .less; not-less = λ g. k }
+
+  pub sought-done : high ≤ low → First p (take n held) low
+  sought-done h =
+      let e : low ≡ high = omega (arith, v .order) in
       let l : length (take n held) ≡ n = length-take-le n held fits in
-      record { within = omega (arith, v .within); low = k; high = λ h. let g : i < n = omega arith in rw (getD-take n held i 0 g) (v .high g) }
-
-  pub sought-here : 0 < i → getD held (i - 1) 0 < p → First p (take n held) i
-  sought-here h k = first (λ j g. lower held n p rising (i - 1) (omega (arith, v .within)) fits k j (omega arith))
-
-  pub sought-end : i ≤ 0 → First p (take n held) i
-  sought-end h = first (λ j g. impossible (omega arith))
+      record {
+        within = omega (arith, v .within);
+        low = v .less;
+        high = λ g. let k : low < n = omega arith in rw (getD-take n held low 0 k, e) (v .not-less (omega arith))
+      }
 
 -- ---- all below
 pub below-each : (p : ℕ) (l : List ℕ) → allBelow p l ≡ true → (j : ℕ) → j < length l → getD l j 0 < p

@@ -51,21 +51,24 @@ enum Put {
     Over,
 }
 
-// The first index, of n, whose place is not less than p. It looks from the end down: the places of an element mostly belong there.
+// The first index, of n, whose place is not less than p.
 fn first_from(held: &[u32], n: usize, p: u32) -> usize
     requires { ⌜ n ≤ length (now held) ⌝ }
     requires { ⌜ Ascending 0 (take n (now held)) ⌝ }
     ensures is { λ r. ⌜ First p (take n (now (held .entry))) r ⌝ }
     ensures most { λ r. ⌜ r ≤ n ⌝ }
 {
-    let mut i = n;
-    while 0 < i {
-        if held[i - 1] < p {
-            return i;
+    let mut low: usize = 0;
+    let mut high = n;
+    while low < high {
+        let mid = low + (high - low) / 2;
+        if held[mid] < p {
+            low = mid + 1;
+        } else {
+            high = mid;
         }
-        i -= 1;
     }
-    i
+    low
 }
 
 // Moves m places up, from `from` on to `to` on, the last first.
