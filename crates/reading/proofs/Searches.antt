@@ -48,7 +48,7 @@ module _ (held : List ℕ) (n p low high : ℕ) (v : Sought held n p low high) (
           within = v .within;
           order = omega arith;
           less = λ j g. lower held n p rising mid (omega (arith, v .within)) fits k j (omega arith);
-          not-less = v .not-less
+          not-less = v .not-less;
         }
 
     pub sought-down : p ≤ getD held mid 0 → Sought held n p low mid
@@ -61,7 +61,7 @@ module _ (held : List ℕ) (n p low high : ℕ) (v : Sought held n p low high) (
       record {
         within = omega (arith, v .within);
         low = v .less;
-        high = λ g. let k : low < n = omega arith in rw (getD-take n held low 0 k, e) (v .not-less (omega arith))
+        high = λ g. let k : low < n = omega arith in rw (getD-take n held low 0 k, e) (v .not-less (omega arith));
       }
 
 -- ---- all below
