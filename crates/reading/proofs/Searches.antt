@@ -8,7 +8,7 @@ use lib.ListN.{length, getD, take}
 use lib.Seq.{getD-take, length-take-le}
 use lib.Dec.{ltb}
 use borrow.Author.Tests.{ltb-true, lt-ltb}
-use Rattle.laws.proofs.Tests.{impossible, and-left, and-right, same-test}
+use Rattle.laws.proofs.Tests.{impossible, by-order, and-left, and-right, same-test}
 use Rattle.codes.specs.Places.{Ascending, nil, cons, First}
 use Rattle.reading.specs.Runs.{allBelow}
 
@@ -63,6 +63,37 @@ module _ (held : List ℕ) (n p low high : ℕ) (v : Sought held n p low high) (
         low = v .less;
         high = λ g. let k : low < n = omega arith in rw (getD-take n held low 0 k, e) (v .not-less (omega arith));
       }
+
+-- ---- past those that are less than q
+pub less-than : {p q : ℕ} {l : List ℕ} {i : ℕ} → First p l i → p ≤ q → (j : ℕ) → j < i → getD l j 0 < q
+less-than f h j g = omega (arith, f .low j g)
+
+pub record Passed (held : List ℕ) (n q i : ℕ) : Type 0 where
+  pub within : i ≤ n
+  pub less : (j : ℕ) → j < i → getD (take n held) j 0 < q
+
+pub passed-start : (held : List ℕ) (n q i : ℕ) → i ≤ n → ((j : ℕ) → j < i → getD (take n held) j 0 < q) → Passed held n q i
+passed-start held n q i h less = record { within = h; less = less }
+
+module _ (held : List ℕ) (n q i : ℕ) (v : Passed held n q i) where
+  pub passed-on : i < n → getD held i 0 < q → Passed held n q (i + 1)
+  passed-on h k =
+      record {
+        within = omega arith;
+        less = λ j g. by-order j i (λ l. v .less j l) (λ l. let e : j ≡ i = omega arith in rw (e, getD-take n held i 0 h) k);
+      }
+
+  module _ (fits : n ≤ length held) where
+    first-of : (i < n → q ≤ getD held i 0) → First q (take n held) i
+    first-of k =
+        let l : length (take n held) ≡ n = length-take-le n held fits in
+        record { within = omega (arith, v .within); low = v .less; high = λ h. let g : i < n = omega arith in rw (getD-take n held i 0 g) (k g) }
+
+    pub passed-here : q ≤ getD held i 0 → First q (take n held) i
+    passed-here k = first-of (λ h. k)
+
+    pub passed-end : n ≤ i → First q (take n held) i
+    passed-end h = first-of (λ g. impossible (omega arith))
 
 -- ---- all below
 pub below-each : (p : ℕ) (l : List ℕ) → allBelow p l ≡ true → (j : ℕ) → j < length l → getD l j 0 < p

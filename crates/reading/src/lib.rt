@@ -1,8 +1,8 @@
 // Place code blocks, read whole: document 01, "Segments and place code blocks".
 ghost use mathlib.Core.Path.{_≡_};
 ghost use mathlib.Core.Bool.{true};
-ghost use Prim.Native.Nat.{_+_, _≤_, _<_};
-ghost use lib.ListN.{length, take, drop};
+ghost use Prim.Native.Nat.{ℕ, _+_, _≤_, _<_};
+ghost use lib.ListN.{length, getD, take, drop};
 ghost use lib.Seq.{paste};
 ghost use Rattle.codes.specs.Places.{placesEnd, placeOf, Ascending, upward, First, Low};
 ghost use Rattle.codes.specs.Block.{readBlock, contentAt, lastOf};
@@ -69,6 +69,23 @@ fn first_from(held: &[u32], n: usize, p: u32) -> usize
         }
     }
     low
+}
+
+// The first index from `from` on, of n, whose place is not less than q: past the places that a run replaces, mostly none.
+fn pass(held: &[u32], from: usize, n: usize, q: u32) -> usize
+    requires { ⌜ (from ≤ n) × (n ≤ length (now held)) ⌝ }
+    requires { ⌜ ((j : ℕ) → j < from → getD (take n (now held)) j 0 < q) ⌝ }
+    ensures is { λ r. ⌜ First q (take n (now (held .entry))) r ⌝ }
+    ensures most { λ r. ⌜ r ≤ n ⌝ }
+{
+    let mut i = from;
+    while i < n {
+        if q <= held[i] {
+            return i;
+        }
+        i += 1;
+    }
+    i
 }
 
 // Moves m places up, from `from` on to `to` on, the last first.
@@ -143,7 +160,7 @@ fn insert(held: &mut [u32], count: usize, p: u32, q: u32) -> Put
 {
     let n = wide(q - p);
     let i = first_from(held, count, p);
-    let j = first_from(held, count, q);
+    let j = pass(held, i, count, q);
     let total = i + n + (count - j);
     if 120 < total {
         return Put::Over;

@@ -1,3 +1,4 @@
+use Rattle.reading.proofs.Searches.{less-than}
 use Rattle.reading.proofs.Sets.{insert-over, insert-total, moves-up}
 use borrow.Author.Needs.{needs}
 use Rattle.reading.proofs.insert.Statement.{statement}
@@ -10,7 +11,7 @@ insert-spec =
     (λ c. search needs)
     (λ c κs. search needs)
     (λ c κs. search needs)
-    (λ c κs. search needs)
+    (λ c κs. (search needs, search (less-than, needs)))
     (λ c. search needs)
     (λ c. search needs)
     (λ c. search needs)
