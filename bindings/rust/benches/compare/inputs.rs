@@ -63,6 +63,23 @@ pub fn typical_text() -> Vec<u8> {
     text.into_bytes()
 }
 
+/// A bulletin of 8 segments whose 112 places each stand in descending order.
+pub fn descending_text() -> Vec<u8> {
+    let mut text = FRONT.to_string();
+    for segment in 1..=8 {
+        let numbers: Vec<u32> = (1..=112).map(|n| 7 * n + segment).rev().collect();
+        text += "MDC";
+        for line in numbers.chunks(14) {
+            text.extend(line.iter().map(|number| format!("{number:03}-")));
+            text += "\r\r\n";
+        }
+        text += "242100-\r\r\n";
+        text += LINE;
+        text += "$$\r\r\n";
+    }
+    text.into_bytes()
+}
+
 /// Full books: 8 segments, 16 steps and 4 drafts with two copies each, all of
 /// 120 places, but for what the name says.
 pub struct Books {

@@ -27,6 +27,7 @@ fn main() {
     let texts = [
         ("16,384 bytes, 8 segments", inputs::long_text(TEXT_MOST)),
         ("2 KB, 3 segments", inputs::typical_text()),
+        ("8 segments, places descending", inputs::descending_text()),
     ];
     for (name, text) in &texts {
         reading(&mut table, name, text);
