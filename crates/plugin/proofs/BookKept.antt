@@ -1,7 +1,7 @@
 -- No answer of a call on a book is lost in its packing. Assumes nothing.
 use Prim.Native.Nat.{ℕ, zero, suc, _+_, _≤_, _<_}
 use native.Mathlib.Omega.{arith}
-use mathlib.Core.Path.{_≡_, refl, sym, ap, subst}
+use mathlib.Core.Path.{_≡_, refl, sym, subst}
 use mathlib.Core.Bool.{Bool, true, false}
 use mathlib.Core.List.{List, [], _∷_}
 use mathlib.Core.Option.{Option, none, some}
@@ -32,8 +32,8 @@ use Rattle.keeping.proofs.Editing.{fine-places, fine-purge}
 use Rattle.keeping.proofs.Working.{copy-fine}
 use Rattle.keeping.proofs.Changing.{changes-fine, newest-fine}
 use Rattle.keeping.proofs.Keeping.{draft-fine}
-use Rattle.plugin.specs.Packing.{packed, unpacked, valueBits, valueOf, editValue, workValue, namedMost, segmentsIn}
-use Rattle.plugin.proofs.Kept.{Kept, kept-ok, back, refused-kept, Byte, spelled-low, unspelled-spelled}
+use Rattle.packing.specs.Packing.{packed, unpacked, valueBits, valueOf, editValue, workValue, segmentsIn}
+use Rattle.packing.proofs.Kept.{Kept, kept-ok, back, refused-kept, Byte, segments-kept}
 
 refusal-kept : (value : ℕ → Value) (r : Reason) → Kept valueBits value (refused r)
 refusal-kept value r = refused-kept valueBits value r 0 (omega arith)
@@ -107,11 +107,9 @@ numbers-bytes issue n h all-nil = all-nil
 numbers-bytes issue n h (all-cons f a) = all-cons (record { from = f .from; below = omega (arith, f .to) }) (numbers-bytes issue n h a)
 
 numbers-kept : (issue n : ℕ) (ks : List Copy) → n ≤ 8 → All (FineCopy issue n) ks → length ks ≤ 2 → Kept valueBits segmentsIn (ok (changed (numbers ks)))
-unfolding valueBits
 numbers-kept issue n ks h f two =
     let long : length (numbers ks) ≡ length ks = length-map ks (λ (k : Copy). k .segment) in
-    kept-ok (changed (numbers ks)) (omega (arith, spelled-low (numbers ks) (omega arith)))
-    (ap changed (unspelled-spelled namedMost (numbers ks) (numbers-bytes issue n h f) (omega arith)))
+    segments-kept (numbers ks) (numbers-bytes issue n h f) (omega arith)
 
 commits-kept : (b : Book) (d : ℕ) (x : Draft) → Sound b → FineDraft (b .issue) (length (b .segments)) x → Kept valueBits segmentsIn (commits b d x .0)
 commits-kept b d closed h f = refusal-kept segmentsIn noDraft

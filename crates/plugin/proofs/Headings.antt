@@ -29,8 +29,8 @@ use Rattle.heading.specs.declared.Storm.the-variants.{None, Found}
 use Rattle.bulletin.specs.Search.{closes}
 use Rattle.bulletin.specs.Mnd.{stormSaid, officeStorm, stormIn}
 use Rattle.bulletin.specs.Bulletin.{line1, line2, headed}
-use Rattle.plugin.specs.Packing.{yearEnd}
-use Rattle.plugin.proofs.Kept.{Byte, Small, small-none, small-found}
+use Rattle.packing.specs.Packing.{yearEnd}
+use Rattle.packing.proofs.Kept.{Byte, Small, small-none, small-found}
 use Rattle.plugin.proofs.Within.{Within, later-within, from-within, up-within, Low, low-ok, low-refused}
 
 -- ---- bytes of a form

@@ -1,7 +1,6 @@
 pub mod Ways
 pub mod Readings
 pub mod Finds
-pub mod Kept
 pub mod BookKept
 pub mod Within
 pub mod Headings

@@ -1,7 +1,7 @@
 -- No answer of the reader, of make and of the writer is lost in its packing. Assumes nothing.
 use Prim.Native.Nat.{ℕ, zero, suc, _-_, _≤_, _<_}
 use native.Mathlib.Omega.{arith}
-use mathlib.Core.Path.{_≡_, refl, ap, _∙_}
+use mathlib.Core.Path.{_≡_, refl}
 use mathlib.Core.Bool.{true}
 use mathlib.Core.List.{List, [], _∷_, map}
 use mathlib.Core.Option.{Option, none, some}
@@ -39,9 +39,9 @@ use Rattle.bulletin.specs.View.{numbered, viewOf, partOf}
 use Rattle.bulletin.specs.declared.Segment.{Segment}
 use Rattle.making.specs.Make.{bookFrom, makeRule, madeAnswer, segmentOf, writeOn}
 use Rattle.making.proofs.Sounding.{made-issue, made-count, made-fine}
-use Rattle.plugin.specs.Packing.{restEnd, pack, unpack, answered, packed, valueBits, nothing, noValue, plain, spelled, unspelled, viewed, viewBits, viewIn, stormBits, stormIn}
+use Rattle.packing.specs.Packing.{restEnd, pack, unpack, answered, packed, valueBits, nothing, noValue, plain, spelled, unspelled, viewed, viewBits, viewIn, stormBits, stormIn}
 use Rattle.plugin.specs.Rules.{issueIn, countIn, bbbIn, identifierIn, stormBitsIn, viewBitsOf, blockEndOf, purgeOf, countOf, contentsOf, placeOf, placeIn}
-use Rattle.plugin.proofs.Kept.{Kept, kept-ok, kept-no, back, refused-kept, spelled-low, unspelled-spelled, view-low, view-back, storm-low, storm-back, Small}
+use Rattle.packing.proofs.Kept.{Kept, kept-ok, kept-no, back, refused-kept, Returns, part-back, small, spelled-low, unspelled-spelled, view-low, view-back, storm-low, storm-back, Small}
 use Rattle.plugin.proofs.BookKept.{place-kept}
 use Rattle.plugin.proofs.Within.{text-within, later-within, Low, low-ok, low-no, low-refused, low-then, low-must, Any, check-low, Lies, list-low}
 use Rattle.plugin.proofs.Headings as headings
@@ -89,24 +89,6 @@ read-low text year month =
     (low-must textMost (isLength text) wrongLength)
 
 -- ---- a part of an answer
--- a value that is found again
-record Returns {B : Type 0} (bits : B → ℕ) (value : ℕ → B) (x : B) : Type 0 where
-  low : bits x < restEnd
-  same : value (bits x) ≡ x
-
-pack-part : {A B : Type 0} (part : A → B) (bits : B → ℕ) (a : Answer A) → pack (λ (x : A). bits (part x)) a ≡ pack bits (answered part a)
-unfolding pack
-pack-part part bits (ok x) = refl
-pack-part part bits (no reason place) = refl
-
-part-back : {A B : Type 0} (part : A → B) (bits : B → ℕ) (value : ℕ → B) (a : Answer A) → Kept bits value (answered part a)
-    → unpack value (pack (λ (x : A). bits (part x)) a) ≡ answered part a
-part-back part bits value a k = ap (unpack value) (pack-part part bits a) ∙ back bits value (answered part a) k
-
--- a number that is no greater than 32 bits
-small : (x : ℕ) → x < 4294967296 → Returns plain plain x
-small x h = record { low = omega arith; same = refl }
-
 low-kept : {A B : Type 0} (part : A → B) (bits : B → ℕ) (value : ℕ → B) (P : A → Type 0) → ((x : A) → P x → Returns bits value (part x))
     → {a : Answer A} → Low textMost P a → Kept bits value (answered part a)
 low-kept part bits value P f (low-ok x p) = kept-ok (part x) (f x p .low) (f x p .same)

@@ -19,7 +19,7 @@ use Rattle.bulletin.specs.declared.Reading.the-variants as reading
 use Rattle.bulletin.specs.declared.Bulletin.{Bulletin}
 use Rattle.bulletin.specs.declared.Viewed.{Viewed}
 use Rattle.bulletin.specs.declared.Viewed.the-variants as viewed
-use Rattle.plugin.specs.Packing.{cell, pack, spelled, stormBits, viewBits}
+use Rattle.packing.specs.Packing.{cell, pack, spelled, stormBits, viewBits}
 use Rattle.plugin.specs.Rules.{issueIn, countIn, bbbIn, identifierIn, stormBitsIn, viewBitsOf, blockEndOf, purgeOf, countOf}
 
 -- ---- of a bulletin

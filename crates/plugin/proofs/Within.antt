@@ -27,7 +27,7 @@ use Rattle.bulletin.specs.Search.{fromFirst, upToFirst, later, closes}
 use Rattle.bulletin.specs.Mnd.{pastMnd}
 use Rattle.bulletin.specs.Segments as segments
 use Rattle.bulletin.specs.Segments.{Segment, pastBlock, opened, ninth, segmentsFrom, fromLine3, firstLines, most, segmentsOf}
-use Rattle.plugin.proofs.Kept.{reason-byte}
+use Rattle.packing.proofs.Kept.{reason-byte}
 
 -- ---- lines
 pub record Within (n : ℕ) (l : Line) : Type 0 where

@@ -12,7 +12,7 @@ use Rattle.bulletin.specs.Segments as segments
 use Rattle.bulletin.specs.Report.{Report}
 use Rattle.bulletin.specs.declared.Segment.{Segment}
 use Rattle.making.specs.Make.{segmentOf}
-use Rattle.plugin.specs.Packing.{spelled, stormBits, viewed, viewBits}
+use Rattle.packing.specs.Packing.{spelled, stormBits, viewed, viewBits}
 
 -- ---- of a bulletin
 abbrev pub issueIn : Report → ℕ

@@ -1,95 +1,24 @@
 // The library for programs in other languages: every public call of the reader, the writer and the book, over numbers of 64 bits and lent bytes. An answer is one
-// number: specs/Packing.antt says how, and the header include/hollgrimsa.h has the same for C.
+// number: the crate `packing` says how, and the header include/hollgrimsa.h has the same for C.
 ghost use mathlib.Core.Path.{_≡_};
-ghost use Prim.Native.Nat.{_+_, _-_, _*_, _%_, _≤_, _<_};
 ghost use lib.ListN.{length};
-ghost use Rattle.refusal.specs.Answer.{paperVerdict};
 ghost use Rattle.codes.specs.Block.{contentAt};
-ghost use Rattle.writing.specs.Write.{writeRule, lengthOf, outputOf, paperWritten};
+ghost use Rattle.writing.specs.Write.{writeRule, lengthOf, outputOf};
 ghost use Rattle.bulletin.specs.Bulletin.{readBulletin};
 ghost use Rattle.bulletin.specs.Report.{reported};
 ghost use Rattle.bulletin.specs.View.{viewOf};
 ghost use Rattle.steps.specs.Calls.{on, taking, editing, readPurge, readCount, readPlace, add, remove, setPurge, opening};
 ghost use Rattle.steps.specs.Calls as calls;
-ghost use Rattle.layout.specs.Rule.{onBytes, segmentsOf, paperReply};
+ghost use Rattle.layout.specs.Rule.{onBytes, paperReply};
 ghost use Rattle.making.specs.Make.{makeRule, madeAnswer, madeBytes, writeOn};
-ghost use Rattle.plugin.specs.Packing.{cell, pack, packed, nothing, plain, spelled, basinNumber, classNumber, idBits, stormBits, viewBits};
-ghost use Rattle.heading.specs.Paper.{paperBbb};
-ghost use Rattle.layout.specs.Layout as layouts;
+ghost use Rattle.packing.specs.Packing.{pack, packed, nothing, plain};
 ghost use Rattle.plugin.specs.Rules.{issueIn, countIn, bbbIn, identifierIn, stormBitsIn, viewBitsOf, blockEndOf, purgeOf, countOf, placeOf, placeIn};
 use bulletin::Reading;
 use bulletin::Viewed;
 use calendar::Stamp;
-use heading::Basin;
-use heading::Bbb;
-use heading::Class;
-use heading::Storm;
-use heading::StormId;
-use layout::Changed;
 use layout::Reply;
 use reading::Purge;
 use refusal::Refusal;
-use refusal::Verdict;
-use writing::Written;
-
-// ---- packing
-// The low byte, and the rest.
-fn cell(low: usize, rest: usize) -> u64
-    ensures { λ r. ⌜ r ≡ cell low rest ⌝ }
-{
-    (low % 256 + 256 * (rest % 72057594037927936)) as u64
-}
-
-// The segments that changed, a byte each.
-fn spell(changed: Changed) -> usize
-    ensures { λ r. ⌜ r ≡ spelled (segmentsOf changed) ⌝ }
-{
-    match changed {
-        Changed::Nothing => 0,
-        Changed::One(first) => first % 256,
-        Changed::Two(first, second) => first % 256 + 256 * (second % 256),
-    }
-}
-
-fn bit(there: bool) -> usize
-    ensures { λ r. ⌜ r ≡ layouts.bit there ⌝ }
-{
-    if there { 1 } else { 0 }
-}
-
-// The answer of a call on a book.
-fn pack_reply(reply: Reply) -> u64
-    ensures { λ r. ⌜ r ≡ packed (paperReply reply) ⌝ }
-{
-    match reply {
-        Reply::Draft(d) => cell(0, d),
-        Reply::Done => cell(0, 0),
-        Reply::Number(n) => cell(0, n),
-        Reply::Was(there) => cell(0, bit(there)),
-        Reply::Segments(changed) => cell(0, spell(changed)),
-        Reply::Refused(r) => cell(r.number, r.place),
-    }
-}
-
-// The answer of a call that gives no value.
-fn pack_verdict(verdict: Verdict) -> u64
-    ensures { λ r. ⌜ r ≡ pack nothing (paperVerdict verdict) ⌝ }
-{
-    match verdict {
-        Verdict::Accepted => cell(0, 0),
-        Verdict::Refused(r) => cell(r.number, r.place),
-    }
-}
-
-// The answer of a call that writes: a length.
-fn pack_written(written: Written) -> u64
-    ensures { λ r. ⌜ r ≡ pack plain (paperWritten written) ⌝ }
-{
-    match written {
-        Written::Length(n) => cell(0, n),
-        Written::Refused(r) => cell(r.number, r.place),
-    }
-}
 
 // ---- the book
 // Makes a book of a bulletin.
@@ -98,7 +27,7 @@ pub extern "C" fn hollgrimsa_make(book: &mut [u8], text: &[u8], year: u64, month
     ensures is { λ r. ⌜ r ≡ pack nothing (madeAnswer (makeRule (now (book .entry)) (now (text .entry)) year month)) ⌝ }
     ensures left { λ _. ⌜ now (book .exit) ≡ madeBytes (makeRule (now (book .entry)) (now (text .entry)) year month) (now (book .entry)) ⌝ }
 {
-    pack_verdict(making::make(book, text, year as usize, month as usize))
+    packing::pack_verdict(making::make(book, text, year as usize, month as usize))
 }
 
 // Opens a draft, and answers its number.
@@ -107,7 +36,7 @@ pub extern "C" fn hollgrimsa_open(book: &mut [u8]) -> u64
     ensures is { λ r. ⌜ r ≡ packed (onBytes (now (book .entry)) opening .0) ⌝ }
     ensures left { λ _. ⌜ now (book .exit) ≡ onBytes (now (book .entry)) opening .1 ⌝ }
 {
-    pack_reply(drafts::open(book))
+    packing::pack_reply(drafts::open(book))
 }
 
 // Takes segment s into draft d.
@@ -116,7 +45,7 @@ pub extern "C" fn hollgrimsa_take(book: &mut [u8], d: u64, s: u64) -> u64
     ensures is { λ r. ⌜ r ≡ packed (onBytes (now (book .entry)) (on d s taking) .0) ⌝ }
     ensures left { λ _. ⌜ now (book .exit) ≡ onBytes (now (book .entry)) (on d s taking) .1 ⌝ }
 {
-    pack_reply(drafts::take(book, d as usize, s as usize))
+    packing::pack_reply(drafts::take(book, d as usize, s as usize))
 }
 
 // The purge minute of draft d's copy of segment s.
@@ -124,7 +53,7 @@ pub extern "C" fn hollgrimsa_take(book: &mut [u8], d: u64, s: u64) -> u64
 pub extern "C" fn hollgrimsa_read_purge(book: &[u8], d: u64, s: u64) -> u64
     ensures { λ r. ⌜ r ≡ packed (onBytes (now (book .entry)) (on d s (editing readPurge)) .0) ⌝ }
 {
-    pack_reply(drafts::read_purge(book, d as usize, s as usize))
+    packing::pack_reply(drafts::read_purge(book, d as usize, s as usize))
 }
 
 // How many places draft d's copy of segment s has.
@@ -132,7 +61,7 @@ pub extern "C" fn hollgrimsa_read_purge(book: &[u8], d: u64, s: u64) -> u64
 pub extern "C" fn hollgrimsa_read_count(book: &[u8], d: u64, s: u64) -> u64
     ensures { λ r. ⌜ r ≡ packed (onBytes (now (book .entry)) (on d s (editing readCount)) .0) ⌝ }
 {
-    pack_reply(drafts::read_count(book, d as usize, s as usize))
+    packing::pack_reply(drafts::read_count(book, d as usize, s as usize))
 }
 
 // The place at index i, from 0, of draft d's copy of segment s.
@@ -140,7 +69,7 @@ pub extern "C" fn hollgrimsa_read_count(book: &[u8], d: u64, s: u64) -> u64
 pub extern "C" fn hollgrimsa_read_place(book: &[u8], d: u64, s: u64, i: u64) -> u64
     ensures { λ r. ⌜ r ≡ packed (onBytes (now (book .entry)) (on d s (editing (readPlace i))) .0) ⌝ }
 {
-    pack_reply(drafts::read_place(book, d as usize, s as usize, i as usize))
+    packing::pack_reply(drafts::read_place(book, d as usize, s as usize, i as usize))
 }
 
 // Adds place p to draft d's copy of segment s, and answers whether it was there.
@@ -149,7 +78,7 @@ pub extern "C" fn hollgrimsa_add(book: &mut [u8], d: u64, s: u64, p: u64) -> u64
     ensures is { λ r. ⌜ r ≡ packed (onBytes (now (book .entry)) (on d s (editing (add p))) .0) ⌝ }
     ensures left { λ _. ⌜ now (book .exit) ≡ onBytes (now (book .entry)) (on d s (editing (add p))) .1 ⌝ }
 {
-    pack_reply(edits::add(book, d as usize, s as usize, p as usize))
+    packing::pack_reply(edits::add(book, d as usize, s as usize, p as usize))
 }
 
 // Removes place p from draft d's copy of segment s, and answers whether it was there.
@@ -158,7 +87,7 @@ pub extern "C" fn hollgrimsa_remove(book: &mut [u8], d: u64, s: u64, p: u64) -> 
     ensures is { λ r. ⌜ r ≡ packed (onBytes (now (book .entry)) (on d s (editing (remove p))) .0) ⌝ }
     ensures left { λ _. ⌜ now (book .exit) ≡ onBytes (now (book .entry)) (on d s (editing (remove p))) .1 ⌝ }
 {
-    pack_reply(edits::remove(book, d as usize, s as usize, p as usize))
+    packing::pack_reply(edits::remove(book, d as usize, s as usize, p as usize))
 }
 
 // Gives draft d's copy of segment s the purge minute of DD, HH and MM, and answers it.
@@ -179,7 +108,7 @@ pub extern "C" fn hollgrimsa_set_purge(
         hour: hour as usize,
         minute: minute as usize,
     };
-    pack_reply(edits::set_purge(book, d as usize, s as usize, time))
+    packing::pack_reply(edits::set_purge(book, d as usize, s as usize, time))
 }
 
 // Commits draft d, and answers the segments that changed.
@@ -188,7 +117,7 @@ pub extern "C" fn hollgrimsa_commit(book: &mut [u8], d: u64) -> u64
     ensures is { λ r. ⌜ r ≡ packed (onBytes (now (book .entry)) (calls.commit d) .0) ⌝ }
     ensures left { λ _. ⌜ now (book .exit) ≡ onBytes (now (book .entry)) (calls.commit d) .1 ⌝ }
 {
-    pack_reply(history::commit(book, d as usize))
+    packing::pack_reply(history::commit(book, d as usize))
 }
 
 // Drops draft d.
@@ -197,7 +126,7 @@ pub extern "C" fn hollgrimsa_drop(book: &mut [u8], d: u64) -> u64
     ensures is { λ r. ⌜ r ≡ packed (onBytes (now (book .entry)) (calls.drop d) .0) ⌝ }
     ensures left { λ _. ⌜ now (book .exit) ≡ onBytes (now (book .entry)) (calls.drop d) .1 ⌝ }
 {
-    pack_reply(drafts::drop(book, d as usize))
+    packing::pack_reply(drafts::drop(book, d as usize))
 }
 
 // Undoes the newest step, and answers its segments.
@@ -206,7 +135,7 @@ pub extern "C" fn hollgrimsa_undo(book: &mut [u8]) -> u64
     ensures is { λ r. ⌜ r ≡ packed (onBytes (now (book .entry)) calls.undo .0) ⌝ }
     ensures left { λ _. ⌜ now (book .exit) ≡ onBytes (now (book .entry)) calls.undo .1 ⌝ }
 {
-    pack_reply(history::undo(book))
+    packing::pack_reply(history::undo(book))
 }
 
 // Writes the block of segment s to the front of out, and answers its length.
@@ -215,7 +144,7 @@ pub extern "C" fn hollgrimsa_write(book: &[u8], s: u64, out: &mut [u8]) -> u64
     ensures is { λ r. ⌜ r ≡ pack plain (lengthOf (writeOn (now (book .entry)) s (length (now (out .entry))))) ⌝ }
     ensures left { λ _. ⌜ now (out .exit) ≡ outputOf (writeOn (now (book .entry)) s (length (now (out .entry)))) (now (out .entry)) ⌝ }
 {
-    pack_written(making::write(book, s as usize, out))
+    packing::pack_written(making::write(book, s as usize, out))
 }
 
 // ---- the writer
@@ -225,7 +154,7 @@ pub extern "C" fn hollgrimsa_write_block(out: &mut [u8], places: &[u32], purge: 
     ensures is { λ r. ⌜ r ≡ pack plain (lengthOf (writeRule (length (now (out .entry))) (now (places .entry)) purge)) ⌝ }
     ensures left { λ _. ⌜ now (out .exit) ≡ outputOf (writeRule (length (now (out .entry))) (now (places .entry)) purge) (now (out .entry)) ⌝ }
 {
-    pack_written(writing::write_block(out, places, purge as usize))
+    packing::pack_written(writing::write_block(out, places, purge as usize))
 }
 
 // ---- the reader: each call reads the text under a year and a month
@@ -237,8 +166,8 @@ pub extern "C" fn hollgrimsa_issue(text: &[u8], year: u64, month: u64) -> u64
     let bulletin = bulletin::read(text, year as usize, month as usize);
     let reading = bulletin.reading;
     match reading {
-        Reading::Accepted(head) => cell(0, head.issue),
-        Reading::Refused(r) => cell(r.number, r.place),
+        Reading::Accepted(head) => packing::cell(0, head.issue),
+        Reading::Refused(r) => packing::cell(r.number, r.place),
     }
 }
 
@@ -251,25 +180,8 @@ pub extern "C" fn hollgrimsa_segments(text: &[u8], year: u64, month: u64) -> u64
     let reading = bulletin.reading;
     let segments = bulletin.segments;
     match reading {
-        Reading::Accepted(_) => cell(0, segments.count),
-        Reading::Refused(r) => cell(r.number, r.place),
-    }
-}
-
-fn byte(b: u8) -> usize
-    ensures is { λ r. ⌜ r ≡ b % 256 ⌝ }
-    ensures most { λ r. ⌜ r < 256 ⌝ }
-{
-    (b as usize) % 256
-}
-
-// A BBB's three bytes, 0 for none.
-fn pack_bbb(bbb: Bbb) -> usize
-    ensures { λ r. ⌜ r ≡ spelled (paperBbb bbb) ⌝ }
-{
-    match bbb {
-        Bbb::Nothing => 0,
-        Bbb::Code(a, b, c) => byte(a) + 256 * byte(b) + 65536 * byte(c),
+        Reading::Accepted(_) => packing::cell(0, segments.count),
+        Reading::Refused(r) => packing::cell(r.number, r.place),
     }
 }
 
@@ -284,9 +196,9 @@ pub extern "C" fn hollgrimsa_bbb(text: &[u8], year: u64, month: u64) -> u64
         Reading::Accepted(head) => {
             let heading = head.heading;
             let bbb = heading.bbb;
-            cell(0, pack_bbb(bbb))
+            packing::cell(0, packing::pack_bbb(bbb))
         }
-        Reading::Refused(r) => cell(r.number, r.place),
+        Reading::Refused(r) => packing::cell(r.number, r.place),
     }
 }
 
@@ -298,52 +210,8 @@ pub extern "C" fn hollgrimsa_identifier(text: &[u8], year: u64, month: u64) -> u
     let bulletin = bulletin::read(text, year as usize, month as usize);
     let reading = bulletin.reading;
     match reading {
-        Reading::Accepted(head) => cell(0, head.identifier),
-        Reading::Refused(r) => cell(r.number, r.place),
-    }
-}
-
-fn number_of_basin(basin: Basin) -> usize
-    ensures is { λ r. ⌜ r ≡ basinNumber basin ⌝ }
-    ensures most { λ r. ⌜ r ≤ 5 ⌝ }
-{
-    match basin {
-        Basin::Al => 1,
-        Basin::Sl => 2,
-        Basin::Ep => 3,
-        Basin::Cp => 4,
-        Basin::Wp => 5,
-    }
-}
-
-fn number_of_class(class: Class) -> usize
-    ensures is { λ r. ⌜ r ≡ classNumber class ⌝ }
-    ensures most { λ r. ⌜ r ≤ 4 ⌝ }
-{
-    match class {
-        Class::Cyclone => 1,
-        Class::Internal => 2,
-        Class::Training => 3,
-        Class::Disturbance => 4,
-    }
-}
-
-fn pack_id(id: StormId) -> usize
-    ensures { λ r. ⌜ r ≡ idBits id ⌝ }
-{
-    let basin = id.basin;
-    let class = id.class;
-    let b = number_of_basin(basin);
-    let c = number_of_class(class);
-    b + 256 * c + 65536 * (id.number % 256) + 16777216 * (id.year % 65536)
-}
-
-fn pack_storm(storm: Storm) -> usize
-    ensures { λ r. ⌜ r ≡ stormBits storm ⌝ }
-{
-    match storm {
-        Storm::None => 0,
-        Storm::Found(id) => pack_id(id),
+        Reading::Accepted(head) => packing::cell(0, head.identifier),
+        Reading::Refused(r) => packing::cell(r.number, r.place),
     }
 }
 
@@ -357,32 +225,21 @@ pub extern "C" fn hollgrimsa_storm(text: &[u8], year: u64, month: u64) -> u64
     match reading {
         Reading::Accepted(head) => {
             let storm = head.storm;
-            cell(0, pack_storm(storm))
+            packing::cell(0, packing::pack_storm(storm))
         }
-        Reading::Refused(r) => cell(r.number, r.place),
+        Reading::Refused(r) => packing::cell(r.number, r.place),
     }
 }
 
 // ---- of segment n, counted from 1
-// A part of a text, by its start and its end.
-fn pack_view(start: usize, past: usize) -> usize
-    ensures { λ r. ⌜ r ≡ viewBits (record { start = start; length = past - start }) ⌝ }
-{
-    if past < start {
-        return start % 16777216;
-    }
-    let n = past - start;
-    start % 16777216 + 16777216 * (n % 4294967296)
-}
-
 // Its start and its length in the caller's own text.
 #[no_mangle]
 pub extern "C" fn hollgrimsa_view(text: &[u8], year: u64, month: u64, n: u64) -> u64
     ensures { λ r. ⌜ r ≡ pack viewBitsOf (viewOf (now (text .entry)) year month n) ⌝ }
 {
     match bulletin::find_segment(text, year as usize, month as usize, n as usize) {
-        Viewed::One(g) => cell(0, pack_view(g.start, g.past)),
-        Viewed::Refused(r) => cell(r.number, r.place),
+        Viewed::One(g) => packing::cell(0, packing::pack_view(g.start, g.past)),
+        Viewed::Refused(r) => packing::cell(r.number, r.place),
     }
 }
 
@@ -392,8 +249,8 @@ pub extern "C" fn hollgrimsa_block_end(text: &[u8], year: u64, month: u64, n: u6
     ensures { λ r. ⌜ r ≡ pack blockEndOf (viewOf (now (text .entry)) year month n) ⌝ }
 {
     match bulletin::find_segment(text, year as usize, month as usize, n as usize) {
-        Viewed::One(g) => cell(0, g.block),
-        Viewed::Refused(r) => cell(r.number, r.place),
+        Viewed::One(g) => packing::cell(0, g.block),
+        Viewed::Refused(r) => packing::cell(r.number, r.place),
     }
 }
 
@@ -403,8 +260,8 @@ pub extern "C" fn hollgrimsa_purge(text: &[u8], year: u64, month: u64, n: u64) -
     ensures { λ r. ⌜ r ≡ pack purgeOf (viewOf (now (text .entry)) year month n) ⌝ }
 {
     match bulletin::find_segment(text, year as usize, month as usize, n as usize) {
-        Viewed::One(g) => cell(0, g.purge),
-        Viewed::Refused(r) => cell(r.number, r.place),
+        Viewed::One(g) => packing::cell(0, g.purge),
+        Viewed::Refused(r) => packing::cell(r.number, r.place),
     }
 }
 
@@ -414,8 +271,8 @@ pub extern "C" fn hollgrimsa_count(text: &[u8], year: u64, month: u64, n: u64) -
     ensures { λ r. ⌜ r ≡ pack countOf (viewOf (now (text .entry)) year month n) ⌝ }
 {
     match bulletin::find_segment(text, year as usize, month as usize, n as usize) {
-        Viewed::One(g) => cell(0, g.count),
-        Viewed::Refused(r) => cell(r.number, r.place),
+        Viewed::One(g) => packing::cell(0, g.count),
+        Viewed::Refused(r) => packing::cell(r.number, r.place),
     }
 }
 
@@ -479,5 +336,5 @@ fn find_place(text: &[u8], year: usize, month: usize, n: usize, i: usize) -> Rep
 pub extern "C" fn hollgrimsa_place(text: &[u8], year: u64, month: u64, n: u64, i: u64) -> u64
     ensures { λ r. ⌜ r ≡ packed (placeIn (now (text .entry)) year month n i) ⌝ }
 {
-    pack_reply(find_place(text, year as usize, month as usize, n as usize, i as usize))
+    packing::pack_reply(find_place(text, year as usize, month as usize, n as usize, i as usize))
 }

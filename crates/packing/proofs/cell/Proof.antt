@@ -1,7 +1,7 @@
-use Rattle.plugin.proofs.Ways.{cell-is}
+use Rattle.packing.proofs.Ways.{cell-is}
 use borrow.Author.Needs.{needs}
-use Rattle.plugin.proofs.cell.Statement.{statement}
-use Rattle.plugin.proofs.cell.Tie as tie
+use Rattle.packing.proofs.cell.Statement.{statement}
+use Rattle.packing.proofs.cell.Tie as tie
 
 pub cell-spec : {M : Type 1} → statement M
 cell-spec = tie.close (tie.spec

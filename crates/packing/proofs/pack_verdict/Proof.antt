@@ -1,7 +1,7 @@
-use Rattle.plugin.proofs.Ways.{verdict-ok, verdict-no}
+use Rattle.packing.proofs.Ways.{verdict-ok, verdict-no}
 use borrow.Author.Needs.{needs}
-use Rattle.plugin.proofs.pack_verdict.Statement.{statement}
-use Rattle.plugin.proofs.pack_verdict.Tie as tie
+use Rattle.packing.proofs.pack_verdict.Statement.{statement}
+use Rattle.packing.proofs.pack_verdict.Tie as tie
 
 pub pack-verdict-spec : {M : Type 1} → statement M
 pack-verdict-spec =

@@ -1,7 +1,7 @@
-use Rattle.plugin.proofs.Ways.{reply-draft, reply-done, reply-number, reply-was, reply-segments, reply-refused}
+use Rattle.packing.proofs.Ways.{reply-draft, reply-done, reply-number, reply-was, reply-segments, reply-refused}
 use borrow.Author.Needs.{needs}
-use Rattle.plugin.proofs.pack_reply.Statement.{statement}
-use Rattle.plugin.proofs.pack_reply.Tie as tie
+use Rattle.packing.proofs.pack_reply.Statement.{statement}
+use Rattle.packing.proofs.pack_reply.Tie as tie
 
 pub pack-reply-spec : {M : Type 1} → statement M
 pack-reply-spec =

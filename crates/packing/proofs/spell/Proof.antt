@@ -1,7 +1,7 @@
-use Rattle.plugin.proofs.Ways.{spell-none, spell-one, spell-two}
+use Rattle.packing.proofs.Ways.{spell-none, spell-one, spell-two}
 use borrow.Author.Needs.{needs}
-use Rattle.plugin.proofs.spell.Statement.{statement}
-use Rattle.plugin.proofs.spell.Tie as tie
+use Rattle.packing.proofs.spell.Statement.{statement}
+use Rattle.packing.proofs.spell.Tie as tie
 
 pub spell-spec : {M : Type 1} → statement M
 spell-spec =

@@ -13,6 +13,7 @@ use Rattle.laws.proofs.Lists.{All, all-cons}
 use Rattle.refusal.specs.Numbers.{Reason, numberOf, wrongLength, wrongText, wrongHeading, wrongIdentifier, wrongTime, wrongBlock, noSegment, noEnd, ninthSegment, wrongStorm, tooManyPlaces, notSound, noDraft, allOpen, noSuchSegment, notTaken, takenAlready, twoTaken, segmentFull, onlyPlace, staleDraft, noStep, outputShort, outOfRange}
 use Rattle.refusal.specs.Answer.{Answer, ok, no, refused}
 use Rattle.blocks.proofs.Numbers.{low-byte, high-part}
+use Rattle.steps.specs.Calls.{changed}
 use Rattle.heading.specs.declared.Basin.{Basin}
 use Rattle.heading.specs.declared.Basin.the-variants.{Al, Sl, Ep, Cp, Wp}
 use Rattle.heading.specs.declared.Class.{Class}
@@ -20,7 +21,7 @@ use Rattle.heading.specs.declared.Class.the-variants.{Cyclone, Internal, Traini
 use Rattle.heading.specs.declared.StormId.{StormId}
 use Rattle.heading.specs.declared.Storm.{Storm}
 use Rattle.heading.specs.declared.Storm.the-variants.{None, Found}
-use Rattle.plugin.specs.Packing.{restEnd, cell, pack, unpack, spelled, unspelled, startEnd, lengthEnd, View, viewBits, viewIn, basinNumber, basinOf, classNumber, classOf, yearEnd, stormBits, stormIn}
+use Rattle.packing.specs.Packing.{restEnd, cell, pack, unpack, answered, spelled, unspelled, valueBits, namedMost, segmentsIn, plain, startEnd, lengthEnd, View, viewBits, viewIn, basinNumber, basinOf, classNumber, classOf, yearEnd, stormBits, stormIn}
 
 -- ---- an answer
 cell-low : (low rest : ℕ) → low < 256 → cell low rest % 256 ≡ low
@@ -61,8 +62,26 @@ reason-byte r =
 pub refused-kept : {A : Type 0} (bits : A → ℕ) (value : ℕ → A) (r : Reason) (place : ℕ) → place < restEnd → Kept bits value (refused r place)
 refused-kept bits value r place h = kept-no (reason-byte r .from) (reason-byte r .below) h
 
--- ---- bytes
+-- ---- a part of an answer
+-- a value that is found again
+pub record Returns {B : Type 0} (bits : B → ℕ) (value : ℕ → B) (x : B) : Type 0 where
+  pub low : bits x < restEnd
+  pub same : value (bits x) ≡ x
 
+pack-part : {A B : Type 0} (part : A → B) (bits : B → ℕ) (a : Answer A) → pack (λ (x : A). bits (part x)) a ≡ pack bits (answered part a)
+unfolding pack
+pack-part part bits (ok x) = refl
+pack-part part bits (no reason place) = refl
+
+pub part-back : {A B : Type 0} (part : A → B) (bits : B → ℕ) (value : ℕ → B) (a : Answer A) → Kept bits value (answered part a)
+    → unpack value (pack (λ (x : A). bits (part x)) a) ≡ answered part a
+part-back part bits value a k = ap (unpack value) (pack-part part bits a) ∙ back bits value (answered part a) k
+
+-- a number that is no greater than 32 bits
+pub small : (x : ℕ) → x < 4294967296 → Returns plain plain x
+small x h = record { low = omega arith; same = refl }
+
+-- ---- bytes
 unspelled-step : (n b s : ℕ) → Byte b → unspelled (suc n) (b % 256 + 256 * s) ≡ b ∷ unspelled n s
 unfolding unspelled
 unspelled-step n b s h =
@@ -85,6 +104,11 @@ spelled-low (a ∷ []) h = omega arith
 spelled-low (a ∷ b ∷ []) h = omega arith
 spelled-low (a ∷ b ∷ c ∷ []) h = omega arith
 spelled-low (a ∷ b ∷ c ∷ d ∷ bs) h = impossible (omega arith)
+
+-- the segments that a commit or an undo names, two at most
+pub segments-kept : (bs : List ℕ) → All Byte bs → length bs ≤ 2 → Kept valueBits segmentsIn (ok (changed bs))
+unfolding valueBits
+segments-kept bs a two = kept-ok (changed bs) (omega (arith, spelled-low bs (omega arith))) (ap changed (unspelled-spelled namedMost bs a (omega arith)))
 
 -- ---- a view
 pub view-low : (v : View) → viewBits v < restEnd

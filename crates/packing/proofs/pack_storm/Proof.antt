@@ -1,7 +1,7 @@
-use Rattle.plugin.proofs.Ways.{storm-none, storm-found}
+use Rattle.packing.proofs.Ways.{storm-none, storm-found}
 use borrow.Author.Needs.{needs}
-use Rattle.plugin.proofs.pack_storm.Statement.{statement}
-use Rattle.plugin.proofs.pack_storm.Tie as tie
+use Rattle.packing.proofs.pack_storm.Statement.{statement}
+use Rattle.packing.proofs.pack_storm.Tie as tie
 
 pub pack-storm-spec : {M : Type 1} → statement M
 pack-storm-spec =

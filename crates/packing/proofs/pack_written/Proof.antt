@@ -1,7 +1,7 @@
-use Rattle.plugin.proofs.Ways.{written-ok, written-no}
+use Rattle.packing.proofs.Ways.{written-ok, written-no}
 use borrow.Author.Needs.{needs}
-use Rattle.plugin.proofs.pack_written.Statement.{statement}
-use Rattle.plugin.proofs.pack_written.Tie as tie
+use Rattle.packing.proofs.pack_written.Statement.{statement}
+use Rattle.packing.proofs.pack_written.Tie as tie
 
 pub pack-written-spec : {M : Type 1} → statement M
 pack-written-spec =

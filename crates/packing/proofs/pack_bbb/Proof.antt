@@ -1,7 +1,7 @@
-use Rattle.plugin.proofs.Ways.{bbb-none, bbb-code}
+use Rattle.packing.proofs.Ways.{bbb-none, bbb-code}
 use borrow.Author.Needs.{needs}
-use Rattle.plugin.proofs.pack_bbb.Statement.{statement}
-use Rattle.plugin.proofs.pack_bbb.Tie as tie
+use Rattle.packing.proofs.pack_bbb.Statement.{statement}
+use Rattle.packing.proofs.pack_bbb.Tie as tie
 
 pub pack-bbb-spec : {M : Type 1} → statement M
 pack-bbb-spec =
