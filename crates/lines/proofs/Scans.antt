@@ -94,6 +94,21 @@ module _ (s : List ℕ) (at i : ℕ) (v : Skips s at i) (w : ℕ) where
     pub skips-no : t ≡ false → Skipped s at w i
     skips-no n = skipped (leb-false w (printables (drop i s)) (sym e ∙ n))
 
+-- ---- one move by w, where fewer than twice as many bytes are printable
+module _ (s : List ℕ) (i w : ℕ) (within : i ≤ length s) (few : printables (drop i s) < w + w) where
+  pub hops-short : length s < i + w → Skipped s i w i
+  hops-short h = skips-short s i i (skips-start s i within) w h
+
+  module _ (t : Bool) (e : t ≡ leb w (printables (drop i s))) where
+    pub hops-on : t ≡ true → Skipped s i w (i + w)
+    hops-on y =
+        let h : w ≤ printables (drop i s) = leb-true w (printables (drop i s)) (sym e ∙ y) in
+        let v : Skips s i (i + w) = skips-on s i i (skips-start s i within) w t e y in
+        record { within = v .within; same = v .same; few = omega (arith, passed s i w h) }
+
+    pub hops-no : t ≡ false → Skipped s i w i
+    hops-no n = skips-no s i i (skips-start s i within) w t e n
+
 -- ---- behind the printable bytes: what holds before them, and goes on over each
 pub over : (s : List ℕ) (P : ℕ → Type 0) → ((j : ℕ) → j < length s → between 32 126 (getD s j 0) ≡ true → P j → P (j + 1))
     → (n i : ℕ) → n ≤ printables (drop i s) → P i → P (i + n)

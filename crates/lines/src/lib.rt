@@ -1,6 +1,6 @@
 // The lines of a text, by places: document 01, "Text and lines".
 ghost use mathlib.Core.Path.{_≡_};
-ghost use Prim.Native.Nat.{_+_, _-_, _≤_};
+ghost use Prim.Native.Nat.{_+_, _-_, _≤_, _<_};
 ghost use lib.ListN.{length, getD, drop};
 ghost use lib.Dec.{leb};
 ghost use Rattle.refusal.specs.Numbers.{wrongText};
@@ -121,15 +121,33 @@ fn skip(text: &[u8], at: usize, w: usize) -> usize
     i
 }
 
+// Moves on from `at` by w if w whole bytes from here on are printable, where fewer than twice as many are.
+fn hop(text: &[u8], at: usize, w: usize) -> usize
+    requires within { ⌜ at ≤ length (now text) ⌝ }
+    requires wide { ⌜ (1 ≤ w) × (w ≤ 16) ⌝ }
+    requires few { ⌜ printables (drop at (now text)) < w + w ⌝ }
+    ensures { λ r. ⌜ Skipped (now (text .entry)) at w r ⌝ }
+{
+    if at + w <= text.len() {
+        let all = all_printable(text, at, w);
+        if all {
+            return at + w;
+        }
+    }
+    at
+}
+
 // The first place from `at` on whose byte is not printable, or the text's end.
 fn printable_end(text: &[u8], at: usize) -> usize
     requires { ⌜ at ≤ length (now text) ⌝ }
     ensures is { λ r. ⌜ r ≡ at + printables (drop at (now (text .entry))) ⌝ }
     ensures most { λ r. ⌜ r ≤ length (now (text .entry)) ⌝ }
 {
-    let i = skip(text, at, 16);
-    let j = skip(text, i, 4);
-    skip(text, j, 1)
+    let a = skip(text, at, 16);
+    let b = hop(text, a, 8);
+    let c = hop(text, b, 4);
+    let d = hop(text, c, 2);
+    hop(text, d, 1)
 }
 
 // A line that nothing ends: the next one starts where its bytes end.
