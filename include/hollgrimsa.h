@@ -40,8 +40,8 @@ enum hollgrimsa_refusal {
     HOLLGRIMSA_WRONG_LENGTH = 1,      /* text or book length wrong */
     HOLLGRIMSA_WRONG_TEXT = 2,        /* byte, line length or last line end wrong: its place */
     HOLLGRIMSA_WRONG_HEADING = 3,     /* line 1 */
-    HOLLGRIMSA_WRONG_IDENTIFIER = 4,  /* line 2: its start */
-    HOLLGRIMSA_WRONG_TIME = 5,        /* year, month, issue day, or a purge that has no minute */
+    HOLLGRIMSA_WRONG_IDENTIFIER = 4,  /* line 2: its start, or text length where there is no line 2 */
+    HOLLGRIMSA_WRONG_TIME = 5,        /* year, month or issue day: 0; a block's purge that has no minute: its element's start; a purge handed in: 0 */
     HOLLGRIMSA_WRONG_BLOCK = 6,       /* block wrong: the first wrong element */
     HOLLGRIMSA_NO_SEGMENT = 7,        /* no segment: text length */
     HOLLGRIMSA_NO_END = 8,            /* a segment without its `$$`: its start */
@@ -63,7 +63,10 @@ enum hollgrimsa_refusal {
     HOLLGRIMSA_OUT_OF_RANGE = 24      /* a place, DD, HH, MM or index handed in is out of range */
 };
 
-/* ---- an answer, unpacked */
+/* ---- an answer, unpacked
+ * The first two functions serve every answer. The others serve an accepted answer of the call that they name, and nothing
+ * else: of a refused one they would take the place apart. */
+
 /* 0, or the refusal's number. */
 static inline unsigned hollgrimsa_refusal(uint64_t answer) {
     return (unsigned)(answer & 0xFF);
@@ -74,7 +77,7 @@ static inline uint64_t hollgrimsa_value(uint64_t answer) {
     return answer >> 8;
 }
 
-/* Commit and undo: how many segments changed, and the lower and the higher of them, 0 for none. */
+/* Commit and undo: the lower and the higher of the changed segments, 0 for none, and how many they are. */
 static inline unsigned hollgrimsa_first_segment(uint64_t answer) {
     return (unsigned)(answer >> 8 & 0xFF);
 }
@@ -174,11 +177,13 @@ uint64_t hollgrimsa_place(const uint8_t *text, size_t text_length, uint64_t year
 /* ---- the writer */
 
 /* Writes the block of these places, strictly ascending, 1..120 of them, and this purge minute to the front of the output,
- * and answers its length; later bytes stay. places_length counts places. Refusals: 24 (places or minute); 23. */
+ * and answers its length; later bytes stay. places_length counts places, and the pointer is aligned for uint32_t.
+ * Refusals: 24 (places or minute); 23. */
 uint64_t hollgrimsa_write_block(uint8_t *out, size_t out_length, const uint32_t *places, size_t places_length, uint64_t purge);
 
 /* ---- the book
- * Every call asks first 1 (book length), then 12. Drafts and segments are counted from 1. */
+ * Every call asks 1 (book length) first. Make takes any bytes of that length and never asks 12; every other call asks 12
+ * next. Drafts and segments are counted from 1. */
 
 /* Makes a book of a bulletin, with no drafts and no steps; what the book's bytes were does not matter. No value.
  * Refusals: 1 (book); then the reader's. */

@@ -8,15 +8,14 @@ use std::ops::Range;
 use crate::{Changed, Reason, Refusal, Storm};
 
 pub fn value(answer: u64) -> Result<u64, Refusal> {
-    let number = answer as u8;
     let rest = answer >> 8;
-    if number == 0 {
-        return Ok(rest);
+    match Reason::from_number(answer as u8) {
+        None => Ok(rest),
+        Some(reason) => Err(Refusal {
+            reason,
+            place: rest as usize,
+        }),
     }
-    Err(Refusal {
-        reason: Reason::from_number(number).expect("the core refuses with 1 to 24"),
-        place: rest as usize,
-    })
 }
 
 /// No value.
@@ -73,6 +72,13 @@ mod tests {
         let refusal = value(6 + 256 * 16_383).unwrap_err();
         assert_eq!(refusal.reason, Reason::WrongBlock);
         assert_eq!(refusal.place, 16_383);
+    }
+
+    #[test]
+    fn a_number_without_a_name_is_a_refusal() {
+        let refusal = value(200 + 256 * 7).unwrap_err();
+        assert_eq!(refusal.reason, Reason::Unknown(200));
+        assert_eq!(refusal.place, 7);
     }
 
     #[test]

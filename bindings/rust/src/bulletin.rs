@@ -21,7 +21,7 @@ use crate::{calls, Places, Refusal, Storm};
 /// let segment = bulletin.segment(1)?;
 /// assert!(segment.text().ends_with(b"DIMINISH.\n$$\n"));
 /// assert_eq!(segment.purge(), 18_682_560);
-/// assert_eq!(segment.places()?.count(), 4);
+/// assert_eq!(segment.places().count(), 4);
 /// # Ok::<(), hollgrimsa::Refusal>(())
 /// ```
 #[derive(Clone, Copy, Debug)]
@@ -102,6 +102,7 @@ impl<'a> Bulletin<'a> {
             range: calls::view(text, year, month, number)?,
             block_end: calls::block_end(text, year, month, number)?,
             purge: calls::purge(text, year, month, number)?,
+            count: calls::count(text, year, month, number)?,
         })
     }
 
@@ -119,6 +120,7 @@ pub struct Segment<'a> {
     range: Range<usize>,
     block_end: usize,
     purge: u32,
+    count: u64,
 }
 
 impl<'a> Segment<'a> {
@@ -148,18 +150,16 @@ impl<'a> Segment<'a> {
     }
 
     /// Its places, ascending. Each is one more reading of the text.
-    ///
-    /// # Errors
-    /// None: the segment is there.
-    pub fn places(&self) -> Result<Places<'a>, Refusal> {
+    pub fn places(&self) -> Places<'a> {
         let Bulletin {
             text, year, month, ..
         } = self.bulletin;
-        Places::of(Source::Text {
+        let source = Source::Text {
             text,
             year,
             month,
             segment: self.number,
-        })
+        };
+        Places::of(source, self.count)
     }
 }

@@ -89,11 +89,13 @@ impl<'a> Draft<'a> {
     /// # Errors
     /// 15 where there is no such segment; 16 where it is not taken.
     pub fn places(&self, segment: u64) -> Result<Places<'_>, Refusal> {
-        Places::of(Source::Copy {
+        let count = self.count(segment)?;
+        let source = Source::Copy {
             book: self.book.as_bytes(),
             draft: self.number,
             segment,
-        })
+        };
+        Ok(Places::of(source, count))
     }
 
     /// Adds a place to the copy of a segment; answers whether it was there.
@@ -145,10 +147,8 @@ impl<'a> Draft<'a> {
     }
 
     /// Closes the draft; its copies are lost.
-    ///
-    /// # Errors
-    /// None: the draft is open.
-    pub fn drop(self) -> Result<(), Refusal> {
-        calls::drop(self.book.as_bytes_mut(), self.number)
+    pub fn drop(self) {
+        let dropped = calls::drop(self.book.as_bytes_mut(), self.number);
+        debug_assert_eq!(dropped, Ok(()), "an open draft of a sound book closes");
     }
 }

@@ -24,22 +24,6 @@ pub(crate) enum Source<'a> {
 }
 
 impl Source<'_> {
-    fn count(self) -> Result<u64, Refusal> {
-        match self {
-            Source::Text {
-                text,
-                year,
-                month,
-                segment,
-            } => calls::count(text, year, month, segment),
-            Source::Copy {
-                book,
-                draft,
-                segment,
-            } => calls::read_count(book, draft, segment),
-        }
-    }
-
     fn place(self, index: u64) -> Result<u32, Refusal> {
         match self {
             Source::Text {
@@ -68,9 +52,10 @@ pub struct Places<'a> {
 }
 
 impl<'a> Places<'a> {
-    pub(crate) fn of(source: Source<'a>) -> Result<Self, Refusal> {
-        let left = 0..source.count()?;
-        Ok(Places { source, left })
+    /// The first `count` places of a source that has so many.
+    pub(crate) fn of(source: Source<'a>, count: u64) -> Self {
+        let left = 0..count;
+        Places { source, left }
     }
 }
 

@@ -29,7 +29,7 @@ fn a_bulletin_shows_what_was_read() {
         assert_eq!(segment.range(), right.start..right.past);
         assert_eq!(segment.text(), &TEXT[right.start..right.past]);
         assert_eq!(segment.purge(), right.purge);
-        assert!(segment.places().unwrap().eq(right.places.iter().copied()));
+        assert!(segment.places().eq(right.places.iter().copied()));
     }
     assert_eq!(bulletin.segments().count(), 2);
     let block = bulletin.segment(2).unwrap().block();
@@ -83,7 +83,7 @@ fn a_draft_is_found_by_its_number() {
     let numbers = [(); 4].map(|()| book.open().unwrap().number());
     assert_eq!(numbers, [1, 2, 3, 4]);
     assert_eq!(reason(book.open()), Reason::AllOpen);
-    book.draft(2).and_then(Draft::drop).unwrap();
+    book.draft(2).map(Draft::drop).unwrap();
     assert_eq!(reason(book.draft(2)), Reason::NoDraft);
     for number in [0, 5, 257, 4_294_967_297, u64::MAX] {
         assert_eq!(reason(book.draft(number)), Reason::NoDraft);

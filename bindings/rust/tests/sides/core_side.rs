@@ -194,7 +194,7 @@ fn list(bulletin: &Bulletin<'_>) -> String {
     let storm = bulletin.storm().map_or("-".into(), |s| s.to_string());
     let mut out = format!("H {heading} {bbb} {identifier} {storm}\n");
     for segment in bulletin.segments() {
-        let places: Vec<u32> = segment.places().unwrap().collect();
+        let places: Vec<u32> = segment.places().collect();
         let (number, purge) = (segment.number(), segment.purge());
         let block = written(&places, purge);
         let count = places.len();
