@@ -1,5 +1,5 @@
 -- What the paper says of a reader's answer is said of no other: of its head or refusal, and of its segments. Assumes nothing.
-use mathlib.Core.Path.{_≡_, ap}
+use mathlib.Core.Path.{_≡_, refl, ap}
 use Rattle.laws.proofs.Tests.{apart}
 use Rattle.refusal.proofs.OneToOne.{refusal-one}
 use Rattle.heading.proofs.OneToOne.{heading-one}
@@ -26,4 +26,4 @@ module _ (s t : Segments) where
       λ i. Accepted (record { heading = g i; identifier = p i .identifier; issue = p i .issue; storm = p i .storm })
   reading-one (Accepted h) (Refused r) e = apart cc
   reading-one (Refused r) (Accepted h) e = apart cc
-  reading-one (Refused r) (Refused q) e = ap Refused (refusal-one r q e)
+  reading-one (Refused r) (Refused q) e = ap Refused (refusal-one r q e refl)

@@ -4,3 +4,4 @@ pub mod Lists
 pub mod Lookups
 pub mod Pastes
 pub mod Stores
+pub mod One

@@ -3,6 +3,7 @@ use mathlib.Core.Path.{_≡_, refl, sym, ap, ap₂, _∙_}
 use mathlib.Core.List.{List}
 use Prim.Native.Nat.{ℕ}
 use Rattle.laws.proofs.Tests.{apart}
+use Rattle.laws.proofs.One.{Same}
 use Rattle.refusal.proofs.OneToOne.{refusal-one}
 use Rattle.steps.specs.Calls.{Call}
 use Rattle.layout.specs.Rule.{segmentsOf, paperReply, Does}
@@ -58,12 +59,8 @@ reply-one (reply.Refused x) reply.Done h = apart cc
 reply-one (reply.Refused x) (reply.Number y) h = apart cc
 reply-one (reply.Refused x) (reply.Was y) h = apart cc
 reply-one (reply.Refused x) (reply.Segments y) h = apart cc
-reply-one (reply.Refused x) (reply.Refused y) h = ap reply.Refused (refusal-one x y h)
+reply-one (reply.Refused x) (reply.Refused y) h = ap reply.Refused (refusal-one x y h refl)
 
 -- any two results that satisfy a call's promise are equal
-pub record Same {A : Type 0} (r q : A) (m n : List ℕ) : Type 0 where
-  pub answers : r ≡ q
-  pub bytes : m ≡ n
-
 pub does-one : (l m n : List ℕ) (c : Call) (r q : Reply) → Does l m c r → Does l n c q → Same r q m n
 does-one l m n c r q x y = record { answers = reply-one r q (x .answer ∙ sym (y .answer)); bytes = x .left ∙ sym (y .left) }

@@ -5,7 +5,7 @@ use mathlib.Core.List.{List, [], _∷_}
 use lib.ListN.{getD}
 use Rattle.laws.proofs.Tests.{apart}
 use Rattle.refusal.specs.Numbers.{Reason, numberOf, wrongLength, wrongText, wrongHeading, wrongIdentifier, wrongTime, wrongBlock, noSegment, noEnd, ninthSegment, wrongStorm, tooManyPlaces, notSound, noDraft, allOpen, noSuchSegment, notTaken, takenAlready, twoTaken, segmentFull, onlyPlace, staleDraft, noStep, outputShort, outOfRange}
-use Rattle.refusal.specs.Answer.{paperRefusal, paperVerdict}
+use Rattle.refusal.specs.Answer.{Answer, paperRefusal, paperVerdict}
 use Rattle.refusal.specs.declared.Refusal.{Refusal}
 use Rattle.refusal.specs.declared.Verdict.{Verdict}
 use Rattle.refusal.specs.declared.Verdict.the-variants.{Accepted, Refused}
@@ -24,14 +24,14 @@ pub number-one : (r s : Reason) → numberOf r ≡ numberOf s → r ≡ s
 number-one r s e = sym (row-back r) ∙ ap (λ (n : ℕ). getD rows (n - 1) wrongLength) e ∙ row-back s
 
 -- nor two refusals one number and place
-pub refusal-one : {A : Type 0} (r s : Refusal) → paperRefusal {A = A} r ≡ paperRefusal s → r ≡ s
-refusal-one r s e =
+pub refusal-one : {A : Type 0} {x : Answer A} (r s : Refusal) → paperRefusal r ≡ x → paperRefusal s ≡ x → r ≡ s
+refusal-one r s a b =
     let n : r .number ≡ s .number = cc in
     let p : r .place ≡ s .place = cc in
     λ i. record { number = n i; place = p i }
 
-pub verdict-one : (a b : Verdict) → paperVerdict a ≡ paperVerdict b → a ≡ b
-verdict-one Accepted Accepted e = refl
-verdict-one Accepted (Refused r) e = apart cc
-verdict-one (Refused r) Accepted e = apart cc
-verdict-one (Refused r) (Refused s) e = ap Refused (refusal-one r s e)
+pub verdict-one : {x : Answer Unit} (r s : Verdict) → paperVerdict r ≡ x → paperVerdict s ≡ x → r ≡ s
+verdict-one Accepted Accepted a b = refl
+verdict-one Accepted (Refused s) a b = apart cc
+verdict-one (Refused r) Accepted a b = apart cc
+verdict-one (Refused r) (Refused s) a b = ap Refused (refusal-one r s a b)

@@ -5,3 +5,4 @@ pub mod Inking
 pub mod Turning
 pub mod Composing
 pub mod Writing
+pub mod OneToOne

@@ -7,9 +7,7 @@ use mathlib.Core.Bool.{Bool, true, false}
 use lib.ListN.{length, take, drop}
 use lib.Seq.{sets, take-at}
 use borrow.Author.Tests.{le-leb, lt-leb}
-use Rattle.laws.proofs.Tests.{apart}
 use Rattle.laws.proofs.Stores.{sets-front}
-use Rattle.refusal.proofs.OneToOne.{refusal-one}
 use Rattle.refusal.specs.Numbers.{outputShort, outOfRange}
 use Rattle.refusal.specs.Answer.{Answer, ok, refusalFor, andThen}
 use Rattle.calendar.specs.Calendar.{isTime, dateOf}
@@ -19,7 +17,7 @@ use Rattle.calendar.specs.declared.Dated.{Dated}
 use Rattle.calendar.specs.declared.Dated.the-variants as dated
 use Rattle.calendar.proofs.Laws.{date-time}
 use Rattle.codes.specs.Written.{written}
-use Rattle.writing.specs.Write.{datedBlock, blockOf, fitting, writeRule, paperWritten, Writes}
+use Rattle.writing.specs.Write.{datedBlock, blockOf, fitting, writeRule, Writes}
 use Rattle.codes.specs.Places.{isSet}
 use Rattle.writing.specs.Pen.{Composed}
 use Rattle.writing.specs.declared.Written.{Written}
@@ -67,10 +65,3 @@ module _ (out places : List ℕ) (minute : ℕ) (t : Bool) (et : t ≡ isSet pla
             let rule : writeRule (length out) places minute ≡ ok text = rule-is ∙ rw (le-leb (length text) (length out) (omega (arith, c .long))) in
             let front : take n block ≡ text = ap (take n) (c .bytes) ∙ take-at text (drop (length text) before) n (sym (c .long)) in
             record { answer = rw rule (ap ok (c .long)); output = rw rule (ea ∙ rw front (sets-front out text (omega (arith, c .long)))) }
-
--- what the paper says of an answer is said of no other
-pub written-one : (a b : Written) → paperWritten a ≡ paperWritten b → a ≡ b
-written-one (Length m) (Length n) e = let q : m ≡ n = cc in ap Length q
-written-one (Length m) (Refused r) e = apart cc
-written-one (Refused r) (Length n) e = apart cc
-written-one (Refused r) (Refused s) e = ap Refused (refusal-one r s e)
