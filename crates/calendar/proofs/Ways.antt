@@ -23,7 +23,8 @@ use Rattle.calendar.specs.declared.Dated.the-variants as dated
 use Rattle.calendar.specs.Paper.{paperMoment, paperDated}
 use Rattle.calendar.specs.Purge.{notBefore, purgeIn, purgeOf, isPurge}
 use Rattle.calendar.specs.declared.Window.{Window}
-use Rattle.calendar.specs.Window.{comesFirst, within, WindowOf, noWindow}
+use Rattle.calendar.specs.declared.Windowed.the-variants as windowed
+use Rattle.calendar.specs.Window.{windowAt, windowOf, paperWindowed}
 use Rattle.calendar.specs.Months.{InYear, Time, monthAt, monthIn, paperFound}
 use Rattle.calendar.proofs.Laws.{start-next, days-low, days-high, start-mono, start-year, start-end, days-of, lengths, Falls, falls-low, falls-one, month-some, month-none, month-is, month-past, time-true, time-is, month-true, known-month, issue-true, issue-month, minute-after, after-time, after-day, after-back, date-is, purge-true, falls-purge, purge-is, purge-own, Purges}
 
@@ -339,118 +340,21 @@ module _ (issue : ℕ) (s : Stamp) (m : Month) (st : Stands issue m) (u : Bool) 
         unfolding purgeIn
         purge-gone d = rw (purge-usable, ← here-test, t, ← next-days issue m st n en, lt-leb (s .day) n d)
 
--- ---- is_within
-module _ (w : Window) (t : ℕ) where
-  pub within-before : t < w .issue → false ≡ within w t
-  unfolding within
-  within-before h = rw (lt-leb (w .issue) t h)
-
-  module _ (i : w .issue ≤ t) where
-    pub within-here : t < w .next → true ≡ within w t
-    unfolding within
-    within-here h = rw (le-leb (w .issue) t i, lt-ltb t (w .next) h)
-
-    module _ (j : w .next ≤ t) where
-      pub within-past : w .end ≤ t → false ≡ within w t
-      unfolding within
-      within-past h = rw (le-leb (w .issue) t i, le-ltb t (w .next) j, le-ltb t (w .end) h)
-
-      pub within-next : t < w .end → not (comesFirst w (t - w .next)) ≡ within w t
-      unfolding within
-      within-next h = rw (le-leb (w .issue) t i, le-ltb t (w .next) j, lt-ltb t (w .end) h)
-
 -- ---- window_of
-not-purge : (issue t : ℕ) → ((s : Stamp) → Purges issue s t → ⊥) → false ≡ isPurge issue t
-not-purge issue t never =
-    by (isPurge issue t)
-    (λ y. let p = purge-own issue t y in absurd (never (p .date .stamp) (purge-true issue (p .date .stamp) t (p .given))))
-    (λ n. sym n)
+pub window-none : (issue : ℕ) → monthOf issue ≡ none → paperWindowed windowed.Nothing ≡ windowOf issue
+unfolding windowOf
+window-none issue q = rw q
 
--- under an issue that gives no purge minute
-module _ (issue : ℕ) (w : Window) (e : w ≡ noWindow) where
-  window-empty : ((s : Stamp) (t : ℕ) → Purges issue s t → ⊥) → WindowOf issue w
-  window-empty never =
-      rw e
-      (λ t. sym (within-past noWindow t (omega arith) (omega arith) (omega arith)) ∙ not-purge issue t (λ s. never s t))
+module _ (issue : ℕ) (m : Month) (st : Stands issue m) where
+  pub window-late : 2099 < m .year → paperWindowed windowed.Nothing ≡ windowOf issue
+  unfolding windowOf
+  window-late h = rw (st .found-at, ← year-test issue m st, lt-leb (m .year) 2099 h)
 
-  pub window-none : monthOf issue ≡ none → WindowOf issue w
-  window-none q = window-empty (λ s t p. omega (arith, month-none issue q, falls-low issue (p .month) (p .issued)))
-
-  pub window-late : (m : Month) → Stands issue m → 2099 < m .year → WindowOf issue w
-  window-late m st h = window-empty (λ s t p. omega (arith, falls-one issue (p .month) (st .k) (p .issued) (st .falls), p .last, st .year))
-
--- the day is in a month of so many days, by the minutes
-there-test : (over days : ℕ) → ltb over (1440 * days) ≡ leb (over / 1440 + 1) days
-there-test over days =
-    same-test (ltb over (1440 * days)) (leb (over / 1440 + 1) days)
-    (λ h. le-leb (over / 1440 + 1) days (omega (arith, ltb-true over (1440 * days) h)))
-    (λ h. lt-ltb over (1440 * days) (omega (arith, leb-true (over / 1440 + 1) days h)))
-
--- so long after the month's start is not before the issue
-since-test : (issue start over : ℕ) → leb (issue - start) over ≡ notBefore issue (start + over)
-since-test issue start over =
-    same-test (leb (issue - start) over) (leb issue (start + over))
-    (λ h. le-leb issue (start + over) (omega (arith, leb-true (issue - start) over h)))
-    (λ h. le-leb (issue - start) over (omega (arith, leb-true issue (start + over) h)))
-
--- the window of an issue in month k
-abbrev windowAt : ℕ → ℕ → Window
-windowAt issue k = record { issue = issue; since = issue - startOf k; next = startOf (suc k); length = 1440 * daysIn k; end = startOf (suc (suc k)) }
-
-module _ (issue k : ℕ) (found-at : monthOf issue ≡ some k) (low : k < issueMonths) where
-  issued : Falls issue k
-  issued = month-some issue k found-at
-
-  under : (s : Stamp) → Time s → purgeOf issue s ≡ purgeIn k issue s
-  unfolding purgeOf
-  under s f = rw (found-at, lt-ltb k issueMonths low, time-is s f)
-
-  module _ (t : ℕ) where
-    own-before : t < issue → false ≡ isPurge issue t
-    own-before h = not-purge issue t (λ s p. omega (arith, p .from))
-
-    own-here : issue ≤ t → t < startOf (suc k) → true ≡ isPurge issue t
-    unfolding purgeIn
-    own-here i j =
-        let s = stampAfter (t - startOf k) in
-        let f : Falls t k = record { low = omega (arith, issued .low); high = j; known = issued .known } in
-        sym (purge-is issue s t (rw (under s (after-time k t f), le-leb (s .day) (daysIn k) (after-day k t f), after-back k t f, le-leb issue t i)))
-
-    own-past : startOf (suc (suc k)) ≤ t → false ≡ isPurge issue t
-    own-past far =
-        not-purge issue t
-        (λ s p.
-        omega (arith, falls-purge issue s t p .high, start-mono (suc (p .at)) (suc (suc k)) (omega (arith, p .near, falls-one issue (p .month) k (p .issued) issued))))
-
-    own-next : startOf (suc k) ≤ t → t < startOf (suc (suc k)) → not (comesFirst (windowAt issue k) (t - startOf (suc k))) ≡ isPurge issue t
-    unfolding isPurge purgeIn
-    own-next j near =
-        let over = t - startOf (suc k) in
-        let s = stampAfter over in
-        let f : Falls t (suc k) = record { low = j; high = near; known = omega arith } in
-        let x = leb (over / 1440 + 1) (daysIn k) && notBefore issue (startOf k + over) in
-        rw (there-test over (daysIn k), since-test issue (startOf k) over, date-is (suc k) t f, under s (after-time (suc k) t f), minute-after k over)
-        (by x
-        (λ y. rw y (sym (ne-eqb (startOf k + over) t (λ same. omega (arith, start-next k, days-low k)))))
-        (λ y. rw (y, le-leb (over / 1440 + 1) (daysIn (suc k)) (after-day (suc k) t f), minute-after (suc k) over) (sym (eq-eqb (startOf (suc k) + over) t (omega arith)))))
-
-    window-tells : within (windowAt issue k) t ≡ isPurge issue t
-    window-tells =
-        let w = windowAt issue k in
-        by-order t issue
-        (λ i. sym (within-before w t i) ∙ own-before i)
-        (λ i.
-        by-order t (startOf (suc k))
-        (λ j. sym (within-here w t i j) ∙ own-here i j)
-        (λ j.
-        by-order t (startOf (suc (suc k)))
-        (λ h. sym (within-next w t i j h) ∙ own-next j h)
-        (λ h. sym (within-past w t i j h) ∙ own-past h)))
-
-pub window-is : (issue : ℕ) (m : Month) (st : Stands issue m) (n : ℕ) → m .year ≤ 2099 → n ≡ daysIn (suc (monthNumber (m .year) (m .month)))
-    → WindowOf issue (record { issue = issue; since = issue - m .start; next = m .start + 1440 * m .days; length = 1440 * m .days; end = m .start + 1440 * m .days + 1440 * n })
-window-is issue m st n h en =
-    let k = st .k in
-    let next : m .start + 1440 * m .days ≡ startOf (suc k) = omega (arith, st .start, st .days, start-next k) in
-    let end : startOf (suc k) + 1440 * n ≡ startOf (suc (suc k)) = omega (arith, start-next (suc k), next-days issue m st n en) in
-    rw (next, end, st .start, st .days) (window-tells issue k (st .found-at) (omega (arith, st .year)))
+  pub window-is : (n : ℕ) → m .year ≤ 2099 → n ≡ daysIn (suc (monthNumber (m .year) (m .month)))
+      → paperWindowed (windowed.Is (record { issue = issue; since = issue - m .start; next = m .start + 1440 * m .days; lasts = 1440 * m .days; end = m .start + 1440 * m .days + 1440 * n })) ≡ windowOf issue
+  unfolding windowOf
+  window-is n h en =
+      let k = st .k in
+      let next : m .start + 1440 * m .days ≡ startOf (suc k) = omega (arith, st .start, st .days, start-next k) in
+      let end : startOf (suc k) + 1440 * n ≡ startOf (suc (suc k)) = omega (arith, start-next (suc k), next-days issue m st n en) in
+      rw (next, end, st .start, st .days, st .found-at, ← year-test issue m st, le-leb (m .year) 2099 h)

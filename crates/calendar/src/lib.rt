@@ -3,7 +3,7 @@ ghost use mathlib.Core.Path.{_≡_};
 ghost use Prim.Native.Nat.{suc, _+_, _-_, _*_, _≤_};
 ghost use Rattle.calendar.specs.Calendar.{isIssueMonth, isMonth, isTime, monthLength, monthNumber, daysIn, startOf, monthOf, minuteOf, dateOf};
 ghost use Rattle.calendar.specs.Purge.{purgeOf};
-ghost use Rattle.calendar.specs.Window.{noWindow, within, WindowOf};
+ghost use Rattle.calendar.specs.Window.{within, windowOf, paperWindowed};
 ghost use Rattle.calendar.specs.Paper.{paperMoment, paperDated};
 ghost use Rattle.calendar.specs.Months.{InYear, Time, monthIn, paperFound};
 
@@ -203,45 +203,37 @@ pub struct Window {
     // The issue, and how long after its month's start it is.
     pub issue: usize,
     pub since: usize,
-    // Where the next month starts, and how long the issue's month is.
+    // Where the next month starts, and how long the issue's month lasts.
     pub next: usize,
-    pub length: usize,
+    pub lasts: usize,
     // Where the next month ends.
     pub end: usize,
 }
 
-// No minute is in it: none is before 0.
-fn no_window() -> Window
-    ensures { λ r. ⌜ r ≡ noWindow ⌝ }
-{
-    Window {
-        issue: 0,
-        since: 0,
-        next: 0,
-        length: 0,
-        end: 0,
-    }
+pub enum Windowed {
+    Is(Window),
+    Nothing,
 }
 
-pub fn window_of(issue: usize) -> Window
-    ensures { λ r. ⌜ WindowOf issue r ⌝ }
+pub fn window_of(issue: usize) -> Windowed
+    ensures { λ r. ⌜ paperWindowed r ≡ windowOf issue ⌝ }
 {
     let Found::In(m) = month_of(issue) else {
-        return no_window();
+        return Windowed::Nothing;
     };
     if 2099 < m.year {
-        return no_window();
+        return Windowed::Nothing;
     }
-    let length = 1440 * m.days;
-    let next = m.start + length;
+    let lasts = 1440 * m.days;
+    let next = m.start + lasts;
     let end = next + 1440 * next_length(m.year, m.month);
-    Window {
+    Windowed::Is(Window {
         issue,
         since: issue - m.start,
         next,
-        length,
+        lasts,
         end,
-    }
+    })
 }
 
 pub fn is_within(w: Window, minute: usize) -> bool
@@ -258,5 +250,5 @@ pub fn is_within(w: Window, minute: usize) -> bool
     }
     // The same DDHHMM in the issue's month comes first, if it is there and not before the issue.
     let over = minute - w.next;
-    !((over < w.length) & (w.since <= over))
+    !((over < w.lasts) & (w.since <= over))
 }

@@ -1,6 +1,8 @@
 // The book: document 01, "The book". Its layout, its soundness, and what its calls answer.
+use calendar::Windowed;
 use refusal::Refusal;
 ghost use mathlib.Core.Path.{_≡_};
+ghost use mathlib.Core.Bool.{true};
 ghost use Prim.Native.Nat.{_≤_, _<_};
 ghost use lib.ListN.{length};
 ghost use Rattle.calendar.specs.Window.{WindowOf};
@@ -8,7 +10,7 @@ ghost use Rattle.codes.specs.Places.{upward};
 ghost use Rattle.blocks.specs.Block.{blockLength, blockCount, bookLength, numberAt};
 ghost use Rattle.steps.specs.Calls.{stepsMost};
 ghost use Rattle.laws.proofs.Tables.{every};
-ghost use Rattle.layout.specs.Sound.{isDraft, isStep, isDraftAt, isStepAt, isIndex, used, isGood, isSound};
+ghost use Rattle.layout.specs.Sound.{isIssue, isDraft, isStep, isDraftAt, isStepAt, isIndex, used, isGood, isSound};
 
 // Segments that changed, ascending.
 pub enum Changed {
@@ -161,13 +163,15 @@ fn is_good(book: &[u8], k: usize, w: calendar::Window) -> bool
     blocks::is_unused(&book[a..e])
 }
 
-// Whether the blocks from 1 on are good. The window is worked out once for all of them.
+// Whether the blocks from 1 on are good. The window is worked out once for all of them; an issue that block 0 may have has one.
 fn are_good(book: &[u8]) -> bool
-    requires { ⌜ length (now book) ≡ bookLength ⌝ }
+    requires { ⌜ (length (now book) ≡ bookLength) × (isIssue (numberAt (now book) 0) ≡ true) ⌝ }
     ensures { λ r. ⌜ r ≡ every (isGood (now (book .entry))) (upward 1 48) ⌝ }
 {
     let issue = blocks::number_at(book, 0);
-    let w = calendar::window_of(issue as usize);
+    let Windowed::Is(w) = calendar::window_of(issue as usize) else {
+        return false;
+    };
     let mut k: usize = 1;
     while k < 49 {
         let good = is_good(book, k, w);

@@ -1,4 +1,4 @@
-use Rattle.calendar.proofs.Ways.{within-before, within-here, within-past, within-next}
+use Rattle.calendar.proofs.Windows.{within-before, within-here, within-past, within-next}
 use borrow.Author.Needs.{needs}
 use Rattle.calendar.proofs.is_within.Statement.{statement}
 use Rattle.calendar.proofs.is_within.Tie as tie

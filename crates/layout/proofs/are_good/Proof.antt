@@ -1,11 +1,10 @@
-use Prim.Native.Nat.{ℕ, _-_}
+use Prim.Native.Nat.{_-_}
 use native.Mathlib.Omega.{arith}
-use mathlib.Core.Path.{subst}
 use borrow.Author.Needs.{needs}
-use Rattle.calendar.specs.Window.{WindowOf}
 use Rattle.codes.specs.Places.{upward}
 use Rattle.laws.proofs.Tables.{every}
 use Rattle.layout.specs.Sound.{isGood}
+use Rattle.layout.proofs.Issues.{window-there, window-told}
 use Rattle.layout.proofs.Tests.{Scan, scan-start, scan-end, scan-no, scan-on}
 use Rattle.layout.proofs.are_good.Statement.{statement}
 use Rattle.layout.proofs.are_good.Tie as tie
@@ -16,12 +15,6 @@ Inv-loop book issue w k₀ k = Scan (every (isGood book) (upward 1 48)) (isGood 
 abbrev μ-loop : tie.MeasureT-loop
 μ-loop book issue w k₀ k = 49 - k
 
--- the window is that of the book's issue
-is-good-requires : tie.Need-is-good-requires Inv-loop μ-loop
-is-good-requires c κs =
-    let b = c .before .before in
-    (search needs, search needs, subst (λ (issue : ℕ). WindowOf issue (b .window-of .result)) (b .before .number-at .ensures) (b .window-of .ensures))
-
 pub are-good-spec : {M : Type 1} → statement M
 are-good-spec =
     tie.close
@@ -31,8 +24,11 @@ are-good-spec =
     (λ c κs. search needs)
     (λ c. search needs)
     (λ c κs. search needs)
+    (λ c. search needs)
+    (λ c. search needs)
+    (λ c. search (window-there, needs))
     (λ c. scan-start _ 1 48 49 (omega arith))
-    is-good-requires
+    (λ c κs. (search needs, search needs, search (window-told, needs)))
     (λ c. search (scan-no, needs))
     (λ c. search needs)
     (λ c. search needs)

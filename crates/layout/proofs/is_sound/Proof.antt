@@ -1,3 +1,4 @@
+use Rattle.layout.proofs.Issues.{index-issue}
 use Rattle.layout.proofs.Tests.{sound-length, sound-index, sound-blocks}
 use Rattle.blocks.specs.Block.{blockOf}
 use borrow.Author.Needs.{needs}
@@ -7,6 +8,11 @@ use Rattle.layout.proofs.is_sound.Tie as tie
 returns-2 : tie.Need-returns-2
 unfolding blockOf
 returns-2 c = search (sound-index, needs)
+
+-- a good block 0 has an issue of the years 1970..2099
+are-good-requires : tie.Need-are-good-requires
+unfolding blockOf
+are-good-requires c κs = (search needs, search (index-issue, needs))
 
 returns-3 : tie.Need-returns-3
 unfolding blockOf
@@ -22,5 +28,5 @@ is-sound-spec =
     (λ c. search needs)
     (λ c κs. search needs)
     returns-2
-    (λ c κs. search needs)
+    are-good-requires
     returns-3)
