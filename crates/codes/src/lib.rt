@@ -70,7 +70,8 @@ pub fn two(e: &[u8], k: usize) -> usize
     wide(10 * x + y)
 }
 
-fn wide(n: u32) -> usize
+// A number of 32 bits as a size.
+pub fn wide(n: u32) -> usize
     ensures { λ r. ⌜ r ≡ n ⌝ }
 {
     n as usize

@@ -20,9 +20,9 @@ use Rattle.layout.specs.declared.Reply.{Reply}
 use Rattle.layout.specs.declared.Reply.the-variants as reply
 use Rattle.layout.proofs.Back.{sound-lies}
 use Rattle.layout.proofs.Rules.{does-step, does-nothing}
-use Rattle.drafts.specs.Admission.{isOpen}
-use Rattle.drafts.proofs.Finds.{open-zero, open-far}
-use Rattle.drafts.proofs.Admits.{opened-at}
+use Rattle.copies.specs.Admission.{isOpen}
+use Rattle.copies.proofs.Finds.{open-zero, open-far}
+use Rattle.copies.proofs.Admits.{opened-at}
 
 closed-of : (x : Draft) → isOpen x ≡ false → x ≡ closed
 closed-of closed e = refl

@@ -1,8 +1,4 @@
-pub mod Copies
-pub mod Works
-pub mod Admits
-pub mod Finds
-pub mod Ways
+pub mod CopyReads
 pub mod Opens
 pub mod Drops
 pub mod Takes

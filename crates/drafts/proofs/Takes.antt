@@ -28,14 +28,14 @@ use Rattle.layout.proofs.Parts.{sound-parts}
 use Rattle.layout.proofs.Rules.{does-step}
 use Rattle.layout.proofs.Said.{draft-of, segment-past, copies-none, copies-one, copies-two}
 use Rattle.layout.proofs.Shown.{draft-copies}
-use Rattle.drafts.specs.Admission.{exists, admission}
-use Rattle.drafts.specs.Copies.{indexOf, blockIn, copyBlock, paperFound, Admitted}
-use Rattle.drafts.specs.declared.Found.{Found}
-use Rattle.drafts.specs.declared.Found.the-variants as found
-use Rattle.drafts.proofs.Copies.{index-some, index-none}
-use Rattle.drafts.proofs.Finds.{open-zero, there-zero}
-use Rattle.drafts.proofs.Works.{Base, base-of, still}
-use Rattle.drafts.proofs.Admits.{Opened, opened-at, some-of, refused-at, admitted-at}
+use Rattle.copies.specs.Admission.{exists, admission}
+use Rattle.copies.specs.Copies.{indexOf, blockIn, copyBlock, paperFound, Admitted}
+use Rattle.copies.specs.declared.Found.{Found}
+use Rattle.copies.specs.declared.Found.the-variants as found
+use Rattle.copies.proofs.Copies.{index-some, index-none}
+use Rattle.copies.proofs.Finds.{open-zero, there-zero}
+use Rattle.copies.proofs.Works.{Base, base-of, still}
+use Rattle.copies.proofs.Admits.{Opened, opened-at, some-of, refused-at, admitted-at}
 
 -- ---- how many segments a draft has taken
 copies-are : (l : List ℕ) (d : ℕ) → 1 ≤ d → d ≤ 4 → isSound l ≡ true

@@ -33,12 +33,12 @@ use Rattle.steps.specs.Calls.{Edit, add, remove, setPurge, editing, on, Answer,
 use Rattle.layout.specs.Rule.{onBytes, paperReply}
 use Rattle.layout.specs.declared.Reply.{Reply}
 use Rattle.layout.specs.declared.Reply.the-variants as reply
-use Rattle.drafts.specs.Admission.{admission}
-use Rattle.drafts.specs.Copies.{copyBlock, paperFound}
-use Rattle.drafts.specs.declared.Found.{Found}
-use Rattle.drafts.specs.declared.Found.the-variants as found
-use Rattle.drafts.proofs.Admits.{Works}
-use Rattle.drafts.proofs.Ways.{ranging, refused-answer, refused-bytes, absent-answers, absent-keeps, answer-at, count-is}
+use Rattle.copies.specs.Admission.{admission}
+use Rattle.copies.specs.Copies.{copyBlock, paperFound}
+use Rattle.copies.specs.declared.Found.{Found}
+use Rattle.copies.specs.declared.Found.the-variants as found
+use Rattle.copies.proofs.Admits.{Works}
+use Rattle.copies.proofs.Ways.{ranging, refused-answer, refused-bytes, absent-answers, absent-keeps, answer-at, count-is}
 
 -- a place in its range
 pub place-low : (l : List ℕ) (d s p : ℕ) (v : Verdict) → v ≡ Accepted → paperVerdict v ≡ admission l d (ltb p placesEnd) s → p < 4294967296

@@ -1,4 +1,4 @@
-// The changes of a draft's copy: document 01, "Steps". `drafts` tells whether a draft may work on a segment, and finds its copy.
+// The changes of a draft's copy: document 01, "Steps". `copies` tells whether a draft may work on a segment, and finds its copy.
 ghost use mathlib.Core.Path.{_≡_};
 ghost use mathlib.Core.Bool.{true, false};
 ghost use mathlib.Core.Option.{some};
@@ -14,7 +14,7 @@ ghost use Rattle.layout.specs.Rule.{onBytes, paperReply};
 use blocks::Held;
 use calendar::Moment;
 use calendar::Stamp;
-use drafts::Found;
+use copies::Found;
 use layout::Reply;
 use refusal::Verdict;
 
@@ -118,17 +118,17 @@ pub fn set_purge(book: &mut [u8], d: usize, s: usize, time: Stamp) -> Reply
     ensures left { λ _. ⌜ now (book .exit) ≡ onBytes (now (book .entry)) (on d s (editing (setPurge time))) .1 ⌝ }
 {
     let in_range = calendar::is_time(time);
-    let verdict = drafts::admit(book, d, in_range, s);
+    let verdict = copies::admit(book, d, in_range, s);
     if let Verdict::Refused(r) = verdict {
         return Reply::Refused(r);
     }
-    let Found::Copy(k) = drafts::find_copy(book, d, s) else {
-        return drafts::refused(refusal::NOT_TAKEN);
+    let Found::Copy(k) = copies::find_copy(book, d, s) else {
+        return layout::refused(refusal::NOT_TAKEN);
     };
     let h = blocks::load(book, k);
-    let issue = drafts::wide(blocks::number_at(book, 0));
+    let issue = codes::wide(blocks::number_at(book, 0));
     let Moment::At(minute) = calendar::purge_of(issue, time) else {
-        return drafts::refused(refusal::WRONG_TIME);
+        return layout::refused(refusal::WRONG_TIME);
     };
     let purge = narrow(minute);
     let places = h.places;
@@ -148,12 +148,12 @@ pub fn add(book: &mut [u8], d: usize, s: usize, p: usize) -> Reply
     ensures left { λ _. ⌜ now (book .exit) ≡ onBytes (now (book .entry)) (on d s (editing (add p))) .1 ⌝ }
 {
     let in_range = p < 1352000;
-    let verdict = drafts::admit(book, d, in_range, s);
+    let verdict = copies::admit(book, d, in_range, s);
     if let Verdict::Refused(r) = verdict {
         return Reply::Refused(r);
     }
-    let Found::Copy(k) = drafts::find_copy(book, d, s) else {
-        return drafts::refused(refusal::NOT_TAKEN);
+    let Found::Copy(k) = copies::find_copy(book, d, s) else {
+        return layout::refused(refusal::NOT_TAKEN);
     };
     let h = blocks::load(book, k);
     let place = narrow(p);
@@ -162,7 +162,7 @@ pub fn add(book: &mut [u8], d: usize, s: usize, p: usize) -> Reply
         return Reply::Was(true);
     }
     if 120 <= h.count {
-        return drafts::refused(refusal::SEGMENT_FULL);
+        return layout::refused(refusal::SEGMENT_FULL);
     }
     let new = with_place(h, place);
     store_held(book, k, new);
@@ -175,12 +175,12 @@ pub fn remove(book: &mut [u8], d: usize, s: usize, p: usize) -> Reply
     ensures left { λ _. ⌜ now (book .exit) ≡ onBytes (now (book .entry)) (on d s (editing (remove p))) .1 ⌝ }
 {
     let in_range = p < 1352000;
-    let verdict = drafts::admit(book, d, in_range, s);
+    let verdict = copies::admit(book, d, in_range, s);
     if let Verdict::Refused(r) = verdict {
         return Reply::Refused(r);
     }
-    let Found::Copy(k) = drafts::find_copy(book, d, s) else {
-        return drafts::refused(refusal::NOT_TAKEN);
+    let Found::Copy(k) = copies::find_copy(book, d, s) else {
+        return layout::refused(refusal::NOT_TAKEN);
     };
     let h = blocks::load(book, k);
     let place = narrow(p);
@@ -189,7 +189,7 @@ pub fn remove(book: &mut [u8], d: usize, s: usize, p: usize) -> Reply
         return Reply::Was(false);
     }
     if h.count == 1 {
-        return drafts::refused(refusal::ONLY_PLACE);
+        return layout::refused(refusal::ONLY_PLACE);
     }
     let new = without_place(h, place);
     store_held(book, k, new);

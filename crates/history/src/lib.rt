@@ -16,21 +16,9 @@ ghost use Rattle.history.specs.Changing.{differing, picked, changesIn, F
 ghost use Rattle.moves.specs.Named.{named};
 ghost use Rattle.moves.specs.Undo.{withSegments};
 ghost use Rattle.history.specs.LastStep.{LastStep};
-ghost use Rattle.layout.specs.declared.Reply.the-variants as reply;
 ghost use Rattle.steps.specs.Calls as calls;
 use layout::Changed;
 use layout::Reply;
-use refusal::Refusal;
-
-// A refusal of a call on a book: its place is 0.
-fn refused(number: usize) -> Reply
-    ensures { λ r. ⌜ r ≡ reply.Refused (record { number = number; place = 0 }) ⌝ }
-{
-    Reply::Refused(Refusal {
-        number: number,
-        place: 0,
-    })
-}
 
 // ---- what commit and undo share
 // One or two segments hold what blocks `from` and `other` hold; second is 0 if there is one.
@@ -189,21 +177,21 @@ fn commit_sound(book: &mut [u8], d: usize) -> Reply
     ensures { λ r. ⌜ Does (now (book .entry)) (now (book .exit)) (calls.commit d) r ⌝ }
 {
     if d < 1 {
-        return refused(refusal::NO_DRAFT);
+        return layout::refused(refusal::NO_DRAFT);
     }
     if 4 < d {
-        return refused(refusal::NO_DRAFT);
+        return layout::refused(refusal::NO_DRAFT);
     }
     let open = blocks::size(book[4 + 4 * d]);
     if open == 0 {
-        return refused(refusal::NO_DRAFT);
+        return layout::refused(refusal::NO_DRAFT);
     }
     let found = changes_in(book, d);
     let first = found.first;
     let stale = blocks::size(book[7 + 4 * d]);
     let is_stale = stale == 1;
     if is_stale {
-        return refused(refusal::STALE_DRAFT);
+        return layout::refused(refusal::STALE_DRAFT);
     }
     let changed = commit_found(book, d, first, found.from, found.second, found.other);
     Reply::Segments(changed)
@@ -214,11 +202,11 @@ pub fn commit(book: &mut [u8], d: usize) -> Reply
     ensures { λ r. ⌜ Does (now (book .entry)) (now (book .exit)) (calls.commit d) r ⌝ }
 {
     if book.len() != 25088 {
-        return refused(refusal::WRONG_LENGTH);
+        return layout::refused(refusal::WRONG_LENGTH);
     }
     let sound = layout::is_sound(book);
     if !sound {
-        return refused(refusal::NOT_SOUND);
+        return layout::refused(refusal::NOT_SOUND);
     }
     commit_sound(book, d)
 }
@@ -239,15 +227,15 @@ pub fn undo(book: &mut [u8]) -> Reply
     ensures { λ r. ⌜ Does (now (book .entry)) (now (book .exit)) calls.undo r ⌝ }
 {
     if book.len() != 25088 {
-        return refused(refusal::WRONG_LENGTH);
+        return layout::refused(refusal::WRONG_LENGTH);
     }
     let sound = layout::is_sound(book);
     if !sound {
-        return refused(refusal::NOT_SOUND);
+        return layout::refused(refusal::NOT_SOUND);
     }
     let n = blocks::size(book[24]);
     if n == 0 {
-        return refused(refusal::NO_STEP);
+        return layout::refused(refusal::NO_STEP);
     }
     let r = n - 1;
     let first = blocks::size(book[32 + 2 * r]);

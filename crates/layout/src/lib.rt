@@ -29,6 +29,13 @@ pub enum Reply {
     Refused(Refusal),
 }
 
+// A refusal of a call on a book: its place is 0.
+pub fn refused(number: usize) -> Reply
+    ensures { λ r. ⌜ r ≡ Reply.Refused (record { number = number; place = 0 }) ⌝ }
+{
+    Reply::Refused(Refusal { number, place: 0 })
+}
+
 // ---- soundness: block 0, then the others one after another
 // Whether the bytes of a draft are good, where n segments exist.
 fn is_draft(n: usize, is_open: usize, first: usize, second: usize, stale: usize) -> bool

@@ -1,6 +1,7 @@
 use native.Mathlib.Omega.{arith}
 use Rattle.blocks.proofs.Numbers.{Bytes}
-use Rattle.drafts.proofs.Ways.{refused-answer, admitting, working, load-long, load-block, load-few, absent-answers, reads-count}
+use Rattle.copies.proofs.Ways.{refused-answer, admitting, working, load-long, load-block, load-few, absent-answers}
+use Rattle.drafts.proofs.CopyReads.{reads-count}
 use borrow.Author.Needs.{needs}
 use Rattle.drafts.proofs.read_count.Statement.{statement}
 use Rattle.drafts.proofs.read_count.Tie as tie

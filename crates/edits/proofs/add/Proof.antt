@@ -1,7 +1,7 @@
 use native.Mathlib.Omega.{arith}
 use mathlib.Core.Path.{sym, _∙_}
 use Rattle.blocks.proofs.Numbers.{Bytes}
-use Rattle.drafts.proofs.Ways.{refused-answer, refused-bytes, admitting, ranging, working, load-long, load-block, load-few, absent-answers, absent-keeps}
+use Rattle.copies.proofs.Ways.{refused-answer, refused-bytes, admitting, ranging, working, load-long, load-block, load-few, absent-answers, absent-keeps}
 use Rattle.edits.proofs.Ways.{place-low, held-up, add-old-answer, add-old-bytes, add-full-answer, add-full-bytes, add-new-answer, add-new-bytes}
 use borrow.Author.Needs.{needs}
 use Rattle.edits.proofs.add.Statement.{statement}

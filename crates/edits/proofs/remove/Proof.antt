@@ -1,6 +1,6 @@
 use native.Mathlib.Omega.{arith}
 use Rattle.blocks.proofs.Numbers.{Bytes}
-use Rattle.drafts.proofs.Ways.{refused-answer, refused-bytes, admitting, ranging, working, load-long, load-block, load-few, absent-answers, absent-keeps}
+use Rattle.copies.proofs.Ways.{refused-answer, refused-bytes, admitting, ranging, working, load-long, load-block, load-few, absent-answers, absent-keeps}
 use Rattle.edits.proofs.Ways.{place-low, held-up, remove-none-answer, remove-none-bytes, remove-only-answer, remove-only-bytes, remove-old-answer, remove-old-bytes}
 use borrow.Author.Needs.{needs}
 use Rattle.edits.proofs.remove.Statement.{statement}

@@ -3,7 +3,7 @@ use Rattle.blocks.specs.Block.{bookLength}
 use native.Mathlib.Omega.{arith}
 use mathlib.Core.Path.{_≡_, _∙_}
 use Rattle.blocks.proofs.Numbers.{Bytes}
-use Rattle.drafts.proofs.Ways.{admitting, ranging, working, load-long, load-block, load-few}
+use Rattle.copies.proofs.Ways.{admitting, ranging, working, load-long, load-block, load-few}
 use Rattle.edits.proofs.Ways.{tested-answer, tested-bytes, tested-absent, tested-keeps, minute-low, purge-none-answer, purge-none-bytes, purge-some-answer, purge-some-bytes}
 use borrow.Author.Needs.{needs}
 use Rattle.edits.proofs.set_purge.Statement.{statement}

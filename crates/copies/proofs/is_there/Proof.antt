@@ -1,7 +1,7 @@
-use Rattle.drafts.proofs.Finds.{there-zero, there-is}
+use Rattle.copies.proofs.Finds.{there-zero, there-is}
 use borrow.Author.Needs.{needs}
-use Rattle.drafts.proofs.is_there.Statement.{statement}
-use Rattle.drafts.proofs.is_there.Tie as tie
+use Rattle.copies.proofs.is_there.Statement.{statement}
+use Rattle.copies.proofs.is_there.Tie as tie
 
 pub is-there-spec : {M : Type 1} → statement M
 is-there-spec = tie.close (tie.spec

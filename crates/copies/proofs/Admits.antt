@@ -27,11 +27,11 @@ use Rattle.layout.specs.Layout.{copiesOf, bytesOf, bookOf}
 use Rattle.layout.specs.Sound.{isSound}
 use Rattle.layout.specs.Rule.{leaving, onBytes}
 use Rattle.layout.proofs.ForthIndex.{or-closed}
-use Rattle.drafts.specs.Admission.{isOpen, exists, admission}
-use Rattle.drafts.specs.Copies.{indexOf, blockIn, copyBlock, Admitted}
-use Rattle.drafts.proofs.Finds.{open-far}
-use Rattle.drafts.proofs.Copies.{Indexed, index-some, index-none}
-use Rattle.drafts.proofs.Works.{Base, base-of, own-bytes, absent-answer, absent-bytes, copy-answer, copy-kept, copy-stored, copy-two, copy-fine, copy-block, still}
+use Rattle.copies.specs.Admission.{isOpen, exists, admission}
+use Rattle.copies.specs.Copies.{indexOf, blockIn, copyBlock, Admitted}
+use Rattle.copies.proofs.Finds.{open-far}
+use Rattle.copies.proofs.Copies.{Indexed, index-some, index-none}
+use Rattle.copies.proofs.Works.{Base, base-of, own-bytes, absent-answer, absent-bytes, copy-answer, copy-kept, copy-stored, copy-two, copy-fine, copy-block, still}
 
 -- ---- an open draft, a segment that is there
 pub record Opened (ds : List Draft) (d : ℕ) : Type 0 where

@@ -23,12 +23,12 @@ use Rattle.steps.specs.Calls.{Edit, readPurge, readCount, readPlace, editing, o
 use Rattle.layout.specs.Rule.{onBytes, paperReply}
 use Rattle.layout.specs.declared.Reply.{Reply}
 use Rattle.layout.specs.declared.Reply.the-variants as reply
-use Rattle.drafts.specs.Admission.{admission}
-use Rattle.drafts.specs.Copies.{copyBlock, paperFound, Admitted}
-use Rattle.drafts.specs.declared.Found.{Found}
-use Rattle.drafts.specs.declared.Found.the-variants as found
-use Rattle.drafts.proofs.Works.{base-of}
-use Rattle.drafts.proofs.Admits.{Works, works-at, Same, absent-at, refused-at, admitted-at, ranged-at}
+use Rattle.copies.specs.Admission.{admission}
+use Rattle.copies.specs.Copies.{copyBlock, paperFound, Admitted}
+use Rattle.copies.specs.declared.Found.{Found}
+use Rattle.copies.specs.declared.Found.the-variants as found
+use Rattle.copies.proofs.Works.{base-of}
+use Rattle.copies.proofs.Admits.{Works, works-at, Same, absent-at, refused-at, admitted-at, ranged-at}
 
 -- the admission accepts
 module _ (l : List ℕ) (d s : ℕ) (v : Verdict) (t : Bool) (is : v ≡ Accepted) (says : paperVerdict v ≡ admission l d t s) where
@@ -87,24 +87,3 @@ count-is h f = length-take-le (h .count) (h .places) (omega (arith, f .long, f .
 pub answer-at : (l : List ℕ) (d s k : ℕ) → Works l d s k → (h : Held) → heldContent h ≡ contentOf (blockOf k l) → (e : Edit) → inRange (editing e) ≡ true
     → edited (numberAt l 0) e (heldContent h) .0 ≡ onBytes l (on d s (editing e)) .0
 answer-at l d s k w h is e r = ap (λ (c : Content). edited (numberAt l 0) e c .0) is ∙ sym (w .answer e r)
-
--- reads
-module _ (l : List ℕ) (d s k : ℕ) (w : Works l d s k) (h : Held) (f : Fits h) (is : heldContent h ≡ contentOf (blockOf k l)) where
-  pub reads-purge : (n : ℕ) → n ≡ h .purge → paperReply (reply.Number n) ≡ onBytes l (on d s (editing readPurge)) .0
-  unfolding edited
-  reads-purge n e = ap (λ (m : ℕ). ok (number m)) e ∙ answer-at l d s k w h is readPurge refl
-
-  pub reads-count : paperReply (reply.Number (h .count)) ≡ onBytes l (on d s (editing readCount)) .0
-  unfolding edited
-  reads-count = ap (λ (m : ℕ). ok (number m)) (sym (count-is h f)) ∙ answer-at l d s k w h is readCount refl
-
-  pub reads-past : (i : ℕ) → h .count ≤ i → (a : Reply) → a ≡ reply.Refused (refusalFor outOfRange 0) → paperReply a ≡ onBytes l (on d s (editing (readPlace i))) .0
-  unfolding edited
-  reads-past i g a e =
-      ap paperReply e ∙ sym (ap placeAt (get-none (take (h .count) (h .places)) i (omega (arith, count-is h f)))) ∙ answer-at l d s k w h is (readPlace i) refl
-
-  pub reads-place : (i n : ℕ) → i < h .count → n ≡ getD (h .places) i 0 → paperReply (reply.Number n) ≡ onBytes l (on d s (editing (readPlace i))) .0
-  unfolding edited
-  reads-place i n g e =
-      ap (λ (m : ℕ). ok (number m)) (e ∙ sym (getD-take (h .count) (h .places) i 0 g))
-      ∙ sym (ap placeAt (get-some 0 (take (h .count) (h .places)) i (omega (arith, count-is h f)))) ∙ answer-at l d s k w h is (readPlace i) refl

@@ -1,7 +1,7 @@
-use Rattle.drafts.proofs.Finds.{open-zero, open-far, open-is}
+use Rattle.copies.proofs.Finds.{open-zero, open-far, open-is}
 use borrow.Author.Needs.{needs}
-use Rattle.drafts.proofs.is_open.Statement.{statement}
-use Rattle.drafts.proofs.is_open.Tie as tie
+use Rattle.copies.proofs.is_open.Statement.{statement}
+use Rattle.copies.proofs.is_open.Tie as tie
 
 pub is-open-spec : {M : Type 1} → statement M
 is-open-spec =

@@ -22,9 +22,9 @@ use Rattle.layout.specs.Sound.{isSound}
 use Rattle.layout.proofs.Parts.{sound-parts, draft-cases}
 use Rattle.layout.proofs.Said.{drafts-length, draft-of, segment-of, segment-past, copies-none, copies-one, copies-two}
 use Rattle.layout.proofs.Shown.{second-needs}
-use Rattle.drafts.specs.Admission.{isOpen, exists, admission}
-use Rattle.drafts.specs.Copies.{indexOf, blockIn, copyBlock, paperFound, Admitted}
-use Rattle.drafts.specs.declared.Found.the-variants as found
+use Rattle.copies.specs.Admission.{isOpen, exists, admission}
+use Rattle.copies.specs.Copies.{indexOf, blockIn, copyBlock, paperFound, Admitted}
+use Rattle.copies.specs.declared.Found.the-variants as found
 
 -- ---- an open draft
 module _ (l : List ℕ) where

@@ -1,7 +1,7 @@
-use Rattle.drafts.proofs.Finds.{admit-short, admit-bad, admit-shut, admit-far, admit-none, admit-all}
+use Rattle.copies.proofs.Finds.{admit-short, admit-bad, admit-shut, admit-far, admit-none, admit-all}
 use borrow.Author.Needs.{needs}
-use Rattle.drafts.proofs.admit.Statement.{statement}
-use Rattle.drafts.proofs.admit.Tie as tie
+use Rattle.copies.proofs.admit.Statement.{statement}
+use Rattle.copies.proofs.admit.Tie as tie
 
 pub admit-spec : {M : Type 1} → statement M
 admit-spec =

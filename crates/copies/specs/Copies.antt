@@ -10,9 +10,9 @@ use Rattle.blocks.specs.Block.{bookLength}
 use Rattle.steps.specs.Book.{Copy, at, draftAt}
 use Rattle.layout.specs.Layout.{copiesOf, bookOf}
 use Rattle.layout.specs.Sound.{isSound}
-use Rattle.drafts.specs.Admission.{isOpen, exists}
-use Rattle.drafts.specs.declared.Found.{Found}
-use Rattle.drafts.specs.declared.Found.the-variants as found
+use Rattle.copies.specs.Admission.{isOpen, exists}
+use Rattle.copies.specs.declared.Found.{Found}
+use Rattle.copies.specs.declared.Found.the-variants as found
 
 -- the index of the copy of segment s, counted from 0
 abbrev pub later : Option ℕ → Option ℕ

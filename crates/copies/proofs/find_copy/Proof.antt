@@ -1,7 +1,7 @@
-use Rattle.drafts.proofs.Finds.{find-first, find-second, find-none}
+use Rattle.copies.proofs.Finds.{find-first, find-second, find-none}
 use borrow.Author.Needs.{needs}
-use Rattle.drafts.proofs.find_copy.Statement.{statement}
-use Rattle.drafts.proofs.find_copy.Tie as tie
+use Rattle.copies.proofs.find_copy.Statement.{statement}
+use Rattle.copies.proofs.find_copy.Tie as tie
 
 returns-2 : tie.Need-returns-2
 returns-2 c =

@@ -26,7 +26,7 @@ use Rattle.layout.proofs.ForthIndex.{or-closed}
 use Rattle.moves.proofs.Parts.{block-of-copy, held-put, held-new}
 use Rattle.moves.proofs.StepsStands.{upd-at, stands-put}
 use Rattle.moves.proofs.StepsLies.{partsIn, lies-stands, stands-lies}
-use Rattle.drafts.specs.Copies.{later, indexOf}
+use Rattle.copies.specs.Copies.{later, indexOf}
 
 -- ---- the copy of a segment
 -- another content for a segment that has no copy

@@ -32,7 +32,7 @@ use Rattle.layout.proofs.IndexBack.{index-sealed}
 use Rattle.layout.proofs.Back.{sound-lies}
 use Rattle.layout.proofs.SoundBack.{sound-book}
 use Rattle.layout.proofs.ForthIndex.{or-closed}
-use Rattle.drafts.proofs.Copies.{Indexed, recopy-same, changed-lies}
+use Rattle.copies.proofs.Copies.{Indexed, recopy-same, changed-lies}
 
 -- ---- what is known of sound bytes
 pub record Base (l : List ℕ) : Type 0 where
