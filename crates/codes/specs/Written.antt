@@ -42,9 +42,9 @@ spansOf (r ∷ rs) = parted (r .first) (r .more) ++ spansOf rs
 
 -- ---- elements, each with its `-`
 -- "each prefix once"
-abbrev pub heading : Option ℕ → ℕ → List ℕ
-heading none p = prefixBytes p
-heading (some q) p = cond (eqb q p) [] (prefixBytes p)
+abbrev pub newPrefix : Option ℕ → ℕ → List ℕ
+newPrefix none p = prefixBytes p
+newPrefix (some q) p = cond (eqb q p) [] (prefixBytes p)
 
 -- the end of a range of so many more
 abbrev pub upTo : ℕ → ℕ → List ℕ
@@ -52,7 +52,7 @@ upTo n zero = []
 upTo n (suc k) = bytes ">" ++ threeBytes (n + suc k)
 
 unfoldable pub elementOf : Option ℕ → Run → List ℕ
-elementOf last r = heading last (r .first / 1000) ++ (threeBytes (r .first % 1000) ++ (upTo (r .first % 1000) (r .more) ++ bytes "-"))
+elementOf last r = newPrefix last (r .first / 1000) ++ (threeBytes (r .first % 1000) ++ (upTo (r .first % 1000) (r .more) ++ bytes "-"))
 
 unfoldable pub elementsOf : Option ℕ → List Run → List (List ℕ)
 elementsOf last [] = []
@@ -93,13 +93,13 @@ abbrev pub wrapped : List (List ℕ) → List (List (List ℕ))
 wrapped es = wrapFrom 0 es .line ∷ wrapFrom 0 es .lines
 
 -- ---- bytes: "Lines end CR CR LF."
-unfoldable pub joined : List (List ℕ) → List ℕ
-joined [] = []
-joined (e ∷ es) = e ++ joined es
+unfoldable pub inOrder : List (List ℕ) → List ℕ
+inOrder [] = []
+inOrder (e ∷ es) = e ++ inOrder es
 
 unfoldable pub rendered : List (List (List ℕ)) → List ℕ
 rendered [] = []
-rendered (l ∷ ls) = joined l ++ (bytes "\r\r\n" ++ rendered ls)
+rendered (l ∷ ls) = inOrder l ++ (bytes "\r\r\n" ++ rendered ls)
 
 unfoldable pub written : List ℕ → Stamp → List ℕ
 written ps s = rendered (wrapped (blockElements ps s))

@@ -26,7 +26,7 @@ use Rattle.layout.proofs.Parts.{sound-parts}
 use Rattle.layout.proofs.Said.{segment-of, segment-past}
 use Rattle.layout.proofs.Stands.{used-segment}
 use Rattle.layout.proofs.Back.{good-used}
-use Rattle.making.specs.Make.{segmentOf, writeOn, WritesOn}
+use Rattle.making.specs.Make.{orNoSegment, writeOn, WritesOn}
 
 -- what the rule says gives the promise
 ruled : (l before after : List ℕ) (s : ℕ) (r : Written) (a : Answer (List ℕ)) → writeOn l s (length before) ≡ a → paperWritten r ≡ lengthOf a → after ≡ outputOf a before
@@ -43,7 +43,7 @@ unfolding writeOn andThen
 rule-broken l s room h e = rw (h, e)
 
 rule-sound : (l : List ℕ) (s room : ℕ) → length l ≡ bookLength → isSound l ≡ true → (o : Option Content) → at (bookOf l .segments) s ≡ o
-    → writeOn l s room ≡ andThen (segmentOf o) (λ c. writeRule room (c .places) (c .purge))
+    → writeOn l s room ≡ andThen (orNoSegment o) (λ c. writeRule room (c .places) (c .purge))
 unfolding writeOn andThen
 rule-sound l s room h e o f = rw (h, e, f)
 

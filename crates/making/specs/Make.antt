@@ -41,15 +41,15 @@ pub record Makes (before after text : List ℕ) (year month : ℕ) (r : Verdict)
   pub left : after ≡ madeBytes (makeRule before text year month) before
 
 -- ---- "Write: a segment's block, from the book, into a lent output": 1, 12, "15, then 23 after 12"
-abbrev pub segmentOf : Option Content → Answer Content
-segmentOf none = refused noSuchSegment 0
-segmentOf (some c) = ok c
+abbrev pub orNoSegment : {A : Type 0} → Option A → Answer A
+orNoSegment none = refused noSuchSegment 0
+orNoSegment (some x) = ok x
 
 unfoldable pub writeOn : List ℕ → ℕ → ℕ → Answer (List ℕ)
 writeOn l s room =
     andThen (must (eqb (length l) bookLength) wrongLength 0) λ _.
     andThen (must (isSound l) notSound 0) λ _.
-    andThen (segmentOf (at (bookOf l .segments) s)) λ c.
+    andThen (orNoSegment (at (bookOf l .segments) s)) λ c.
     writeRule room (c .places) (c .purge)
 
 -- the promise: the answer, and the output afterwards

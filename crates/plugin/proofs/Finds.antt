@@ -32,7 +32,7 @@ use Rattle.steps.specs.Calls.{placeAt}
 use Rattle.layout.specs.Rule.{paperReply}
 use Rattle.layout.specs.declared.Reply.{Reply}
 use Rattle.layout.specs.declared.Reply.the-variants as reply
-use Rattle.making.specs.Make.{segmentOf}
+use Rattle.making.specs.Make.{orNoSegment}
 use Rattle.making.proofs.Made.{contents-read}
 use Rattle.making.proofs.Making.{Told, told-by, refused-by}
 use Rattle.plugin.specs.Rules.{contentsOf, placeOf, placeIn}
@@ -72,7 +72,7 @@ module _ (s : List ℕ) (issue start i : ℕ) (k : Content) (e : paperContent k 
 -- what stands at the start of a segment that is seen is its content
 content-again : (s : List ℕ) (issue : ℕ) (gs : List segments.Segment) (k : ℕ) (d : Segment)
     → All (λ (g : segments.Segment). contentAt s issue (g .start) ≡ ok (g .content)) gs → k < length gs
-    → contentAt s issue (getD (map seen gs) k d .start) ≡ segmentOf (getElem? (map (λ (g : segments.Segment). g .content) gs) k)
+    → contentAt s issue (getD (map seen gs) k d .start) ≡ orNoSegment (getElem? (map (λ (g : segments.Segment). g .content) gs) k)
 content-again s issue [] k d a h = impossible (omega arith)
 content-again s issue (g ∷ gs) zero d (all-cons e a) h = e
 content-again s issue (g ∷ gs) (suc k) d (all-cons e a) h = content-again s issue gs k d a (omega arith)
@@ -82,7 +82,7 @@ module _ (s : List ℕ) (year month n i : ℕ) where
   unfolding placeIn andThen
   rule-no number place e = rw e
 
-  rule-ok : (b : rule.Bulletin) → readBulletin s year month ≡ ok b → placeIn s year month n i ≡ placeOf i (segmentOf (at (contentsOf b) n))
+  rule-ok : (b : rule.Bulletin) → readBulletin s year month ≡ ok b → placeIn s year month n i ≡ placeOf i (orNoSegment (at (contentsOf b) n))
   unfolding placeIn andThen
   rule-ok b e = rw e
 
@@ -102,7 +102,7 @@ module _ (s : List ℕ) (year month n i : ℕ) where
       pub find-low : n < 1 → (r : Reply) → r ≡ reply.Refused (refusalFor noSuchSegment 0) → paperReply r ≡ placeIn s year month n i
       find-low k r er =
           let z : n ≡ 0 = omega arith in
-          ap paperReply er ∙ ap (λ (m : ℕ). placeOf i (segmentOf (at (contentsOf (told .said)) m))) (sym z) ∙ sym (rule-ok (told .said) (told .read))
+          ap paperReply er ∙ ap (λ (m : ℕ). placeOf i (orNoSegment (at (contentsOf (told .said)) m))) (sym z) ∙ sym (rule-ok (told .said) (told .read))
 
       module _ (z : Sized (b .segments)) where
         many : length (told .said .segments) ≡ b .segments .count
@@ -117,8 +117,8 @@ module _ (s : List ℕ) (year month n i : ℕ) where
         pub find-far : b .segments .count < n → (r : Reply) → r ≡ reply.Refused (refusalFor noSuchSegment 0) → paperReply r ≡ placeIn s year month n i
         find-far k r er =
             let one : n ≡ suc (n - 1) = omega arith in
-            ap paperReply er ∙ ap (λ (o : Option codes.Content). placeOf i (segmentOf o)) (sym (at-none (contentsOf (told .said)) (n - 1) (omega (arith, many-contents))))
-            ∙ ap (λ (m : ℕ). placeOf i (segmentOf (at (contentsOf (told .said)) m))) (sym one) ∙ sym (rule-ok (told .said) (told .read))
+            ap paperReply er ∙ ap (λ (o : Option codes.Content). placeOf i (orNoSegment o)) (sym (at-none (contentsOf (told .said)) (n - 1) (omega (arith, many-contents))))
+            ∙ ap (λ (m : ℕ). placeOf i (orNoSegment (at (contentsOf (told .said)) m))) (sym one) ∙ sym (rule-ok (told .said) (told .read))
 
         pub find-one : 1 ≤ n → n ≤ b .segments .count → (d : Segment) (r : Reply)
             → paperReply r ≡ placeOf i (contentAt s (h .issue) (getD (b .segments .held) (n - 1) d .start)) → paperReply r ≡ placeIn s year month n i
@@ -129,5 +129,5 @@ module _ (s : List ℕ) (year month n i : ℕ) where
             er
             ∙ ap₂ (λ (t : ℕ) (g : Segment). placeOf i (contentAt s t (g .start))) (told .issue) same
             ∙ ap (placeOf i) (content-again s (told .said .issue) (told .said .segments) (n - 1) d (contents-read s year month (told .said) (told .read)) (omega (arith, many)))
-            ∙ ap (λ (m : ℕ). placeOf i (segmentOf (at (contentsOf (told .said)) m))) (sym one)
+            ∙ ap (λ (m : ℕ). placeOf i (orNoSegment (at (contentsOf (told .said)) m))) (sym one)
             ∙ sym (rule-ok (told .said) (told .read))

@@ -19,7 +19,7 @@ use Rattle.codes.specs.Places.{capacity, isSet}
 use Rattle.codes.specs.Block as codes
 use Rattle.heading.specs.Heading.{Heading}
 use Rattle.heading.specs.declared.Storm.{Storm}
-use Rattle.writing.specs.Write.{datedBlock, blockOf, fitting, writeRule, lengthOf}
+use Rattle.writing.specs.Write.{datedBlock, writtenBlock, fitting, writeRule, lengthOf}
 use Rattle.blocks.specs.Block.{bookLength}
 use Rattle.blocks.specs.Content.{isContent}
 use Rattle.blocks.proofs.Contents.{purge-32}
@@ -37,7 +37,7 @@ use Rattle.bulletin.specs.Seen.{seen}
 use Rattle.bulletin.specs.Report.{Report, reported}
 use Rattle.bulletin.specs.View.{numbered, viewOf, partOf}
 use Rattle.bulletin.specs.declared.Segment.{Segment}
-use Rattle.making.specs.Make.{bookFrom, makeRule, madeAnswer, segmentOf, writeOn}
+use Rattle.making.specs.Make.{bookFrom, makeRule, madeAnswer, orNoSegment, writeOn}
 use Rattle.making.proofs.Sounding.{made-issue, made-count, made-fine}
 use Rattle.packing.specs.Packing.{restEnd, pack, unpack, answered, packed, valueBits, nothing, noValue, plain, spelled, unspelled, viewed, viewBits, viewIn, stormBits, stormIn}
 use Rattle.plugin.specs.Rules.{issueIn, countIn, bbbIn, identifierIn, stormBitsIn, viewBitsOf, blockEndOf, purgeOf, countOf, contentsOf, placeOf, placeIn}
@@ -223,12 +223,12 @@ module _ (text : List ℕ) (year month n i : ℕ) where
   contents-fine : (b : Bulletin) → readBulletin text year month ≡ ok b → All (Fine (b .issue)) (contentsOf b)
   contents-fine b e = all-each (λ (g : segments.Segment). g .content) (λ g f. f) (made-fine text year month b e)
 
-  place-of : (issue : ℕ) (o : Option codes.Content) → ((c : codes.Content) → o ≡ some c → Fine issue c) → Kept valueBits number (placeOf i (segmentOf o))
+  place-of : (issue : ℕ) (o : Option codes.Content) → ((c : codes.Content) → o ≡ some c → Fine issue c) → Kept valueBits number (placeOf i (orNoSegment o))
   place-of issue none f = refused-kept valueBits number noSuchSegment 0 (omega arith)
   place-of issue (some c) f = place-kept (c .places) i (set-true (c .places) (fine-places issue c (f c refl)) .up) (getElem? (c .places) i) refl
 
   place-in : (a : Answer Bulletin) → readBulletin text year month ≡ a → Low textMost Bounded a
-      → Kept valueBits number (andThen a (λ (b : Bulletin). placeOf i (segmentOf (at (contentsOf b) n))))
+      → Kept valueBits number (andThen a (λ (b : Bulletin). placeOf i (orNoSegment (at (contentsOf b) n))))
   unfolding andThen
   place-in (ok b) e l = place-of (b .issue) (at (contentsOf b) n) (λ c q. all-stands (contentsOf b) n c (contents-fine b e) q .is)
   place-in (no _ _) e (low-no reason place one most h) = kept-no {reason = reason} {place = place} one most (omega arith)
@@ -273,7 +273,7 @@ module _ (room : ℕ) (h : room < restEnd) where
       (λ t. rw t (low-refused textMost Short outputShort 0 (omega arith)))
 
   rule-low : (ps : List ℕ) (minute : ℕ) → Low textMost Short (writeRule room ps minute)
-  unfolding writeRule blockOf
+  unfolding writeRule writtenBlock
   rule-low ps minute =
       low-then (fitting room) (λ block _. fitting-low block)
       (either-way (Low textMost Any) (isSet ps) (dated-block ps (dateOf minute)) (low-refused textMost Any outOfRange 0 (omega arith)))
@@ -281,7 +281,7 @@ module _ (room : ℕ) (h : room < restEnd) where
   pub block-back : (ps : List ℕ) (minute : ℕ) → unpack plain (pack plain (lengthOf (writeRule room ps minute))) ≡ lengthOf (writeRule room ps minute)
   block-back ps minute = back plain plain (lengthOf (writeRule room ps minute)) (written-kept (writeRule room ps minute) (rule-low ps minute))
 
-  segment-low : (o : Option codes.Content) → Low textMost Any (segmentOf o)
+  segment-low : (o : Option codes.Content) → Low textMost Any (orNoSegment o)
   segment-low none = low-refused textMost Any noSuchSegment 0 (omega arith)
   segment-low (some c) = low-ok c tt
 

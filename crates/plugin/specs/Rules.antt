@@ -11,7 +11,7 @@ use Rattle.bulletin.specs.Bulletin.{Bulletin, readBulletin}
 use Rattle.bulletin.specs.Segments as segments
 use Rattle.bulletin.specs.Report.{Report}
 use Rattle.bulletin.specs.declared.Segment.{Segment}
-use Rattle.making.specs.Make.{segmentOf}
+use Rattle.making.specs.Make.{orNoSegment}
 use Rattle.packing.specs.Packing.{spelled, stormBits, viewed, viewBits}
 
 -- ---- of a bulletin
@@ -54,4 +54,4 @@ placeOf i (no reason place) = no reason place
 unfoldable pub placeIn : List ℕ → ℕ → ℕ → ℕ → ℕ → calls.Answer
 placeIn text year month n i =
     andThen (readBulletin text year month) λ b.
-    placeOf i (segmentOf (at (contentsOf b) n))
+    placeOf i (orNoSegment (at (contentsOf b) n))

@@ -7,9 +7,9 @@ use Rattle.calendar.specs.Calendar.{leap, monthLength, daysIn, isIssueMonth, st
 use Rattle.calendar.specs.Purge.{purgeIn, purgeOf}
 use Rattle.codes.specs.Elements.{elementsAt, elementsOfLines, numbers, time, short, said}
 use Rattle.codes.specs.Block.{insert, insertRun, readFrom, readBlock, contentAt}
-use Rattle.codes.specs.Written.{join, runsOf, spansOf, elementOf, elementsOf, purgeElement, blockElements, wrapFrom, joined, rendered, written}
+use Rattle.codes.specs.Written.{join, runsOf, spansOf, elementOf, elementsOf, purgeElement, blockElements, wrapFrom, inOrder, rendered, written}
 use Rattle.blocks.specs.Block.{sameList}
-use Rattle.writing.specs.Write.{blockOf}
+use Rattle.writing.specs.Write.{writtenBlock}
 use Rattle.codes.specs.Places.{ascends, isSet}
 use Rattle.lines.specs.Check.{badByte, longLine, lastEnds, unended, least, textFault, checkText}
 use Rattle.heading.specs.Heading.{isHeading, headingOf, isIdentifier}
@@ -21,5 +21,5 @@ use Rattle.bulletin.specs.Bulletin.{isLength, readBulletin}
 use Rattle.promises.specs.Examples.{all, table}
 
 pub examples : T (all table)
-unfolding sameList begins exactly pieces lineEnd bodyOf linesAt leap monthLength daysIn startOf isTime minuteIn isMonth minuteOf monthFrom monthOf dateOf purgeIn purgeOf elementsAt elementsOfLines numbers time short said insert insertRun readFrom readBlock contentAt join runsOf spansOf elementOf elementsOf purgeElement blockElements wrapFrom joined rendered written ascends isSet blockOf blank isEnd opens badByte longLine lastEnds unended least textFault checkText isIssueMonth andThen isHeading headingOf isIdentifier isOffice namesStorm basinOf classOf stormOf fromFirst upToFirst stormIn segmentsFrom firstLines segmentsOf isLength readBulletin
+unfolding sameList begins exactly pieces lineEnd bodyOf linesAt leap monthLength daysIn startOf isTime minuteIn isMonth minuteOf monthFrom monthOf dateOf purgeIn purgeOf elementsAt elementsOfLines numbers time short said insert insertRun readFrom readBlock contentAt join runsOf spansOf elementOf elementsOf purgeElement blockElements wrapFrom inOrder rendered written ascends isSet writtenBlock blank isEnd opens badByte longLine lastEnds unended least textFault checkText isIssueMonth andThen isHeading headingOf isIdentifier isOffice namesStorm basinOf classOf stormOf fromFirst upToFirst stormIn segmentsFrom firstLines segmentsOf isLength readBulletin
 examples = tt

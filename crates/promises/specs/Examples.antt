@@ -16,7 +16,7 @@ use Rattle.calendar.specs.declared.Date.{Date}
 use Rattle.codes.specs.Places.{placeOf, prefixOf, threeOf, placeBytes}
 use Rattle.codes.specs.Block.{Content, contentAt}
 use Rattle.blocks.specs.Block.{sameList}
-use Rattle.writing.specs.Write.{blockOf}
+use Rattle.writing.specs.Write.{writtenBlock}
 use Rattle.heading.specs.declared.Class.{Class}
 use Rattle.heading.specs.declared.Class.the-variants.{Cyclone, Internal, Training, Disturbance}
 use Rattle.heading.specs.declared.Storm.{Storm}
@@ -82,7 +82,7 @@ isBlock text (ok block) = sameList block text
 isBlock text (no number at) = false
 
 abbrev pub writtenAs : String → Answer Content → Bool
-writtenAs text (ok c) = isBlock (bytes text ++ bytes "\r\r\n") (blockOf (c .places) (c .purge))
+writtenAs text (ok c) = isBlock (bytes text ++ bytes "\r\r\n") (writtenBlock (c .places) (c .purge))
 writtenAs text (no number at) = false
 
 -- ---- a bulletin of 2002-04 with this BBB on line 1 and these bytes at its office line's end

@@ -10,7 +10,7 @@ use Rattle.laws.proofs.Tests.{by}
 use Rattle.laws.proofs.Lists.{All, all-nil, all-cons}
 use Rattle.lines.specs.Lines.{pieces, bodyOf, Line, linesAt, linesFrom}
 use Rattle.calendar.specs.declared.Stamp.{Stamp}
-use Rattle.codes.specs.Written.{Run, elementsOf, purgeElement, writtenMost, fits, Wrapped, wrapFrom, wrapped, joined, rendered}
+use Rattle.codes.specs.Written.{Run, elementsOf, purgeElement, writtenMost, fits, Wrapped, wrapFrom, wrapped, inOrder, rendered}
 use Rattle.roundtrip.proofs.Split.{Word, crcrlf, endedLines, body-joined, wrap-words, lines-rendered}
 use Rattle.roundtrip.proofs.Said.{element-short, purge-short}
 
@@ -25,21 +25,21 @@ short-spans s last (r ∷ rs) = all-cons (element-short last r) (short-spans s (
 
 -- ---- the lines, by elements
 abbrev Fit : List (List ℕ) → Type 0
-Fit l = length (joined l) ≤ writtenMost
+Fit l = length (inOrder l) ≤ writtenMost
 
 record Fits (n : ℕ) (w : Wrapped) : Type 0 where
-  now : n + length (joined (w .line)) ≤ writtenMost
+  now : n + length (inOrder (w .line)) ≤ writtenMost
   later : All Fit (w .lines)
 
 wrap-fits : (n : ℕ) {es : List (List ℕ)} → n ≤ writtenMost → All Short es → Fits n (wrapFrom n es)
-unfolding wrapFrom joined
+unfolding wrapFrom inOrder
 wrap-fits n h all-nil = record { now = omega arith; later = all-nil }
 wrap-fits n h (all-cons {x = e} {xs = es} k s) =
     by (fits n e)
     (λ q. let r = wrap-fits (n + length e) (leb-true _ _ q) s in
-    rw q (record { now = omega (arith, r .now, length-append e (joined (wrapFrom (n + length e) es .line))); later = r .later }))
+    rw q (record { now = omega (arith, r .now, length-append e (inOrder (wrapFrom (n + length e) es .line))); later = r .later }))
     λ q. let r = wrap-fits (length e) k s in
-    let f : Fit (e ∷ wrapFrom (length e) es .line) = omega (arith, r .now, length-append e (joined (wrapFrom (length e) es .line))) in
+    let f : Fit (e ∷ wrapFrom (length e) es .line) = omega (arith, r .now, length-append e (inOrder (wrapFrom (length e) es .line))) in
     rw q (record { now = omega arith; later = all-cons f (r .later) })
 
 -- ---- the lines of the text
@@ -50,7 +50,7 @@ ended-fit : (at : ℕ) {ls : List (List (List ℕ))} → All (All Word) ls → A
 unfolding linesAt endedLines
 ended-fit at all-nil all-nil = all-nil
 ended-fit at (all-cons {x = l} w ws) (all-cons f fs) =
-    let g : length (bodyOf (joined l ++ crcrlf)) ≤ writtenMost = rw (body-joined w) f in
+    let g : length (bodyOf (inOrder l ++ crcrlf)) ≤ writtenMost = rw (body-joined w) f in
     all-cons g (ended-fit _ ws fs)
 
 pub rendered-fit : (at : ℕ) {es : List (List ℕ)} → All Word es → All Short es → All FitLine (linesFrom at (rendered (wrapped es)))

@@ -8,7 +8,7 @@ use lib.ListN.{length}
 use Rattle.laws.proofs.Lists.{All, all-nil, all-cons}
 use Rattle.lines.specs.Lines.{opens, Line, linesAt, linesFrom}
 use Rattle.calendar.specs.declared.Stamp.{Stamp}
-use Rattle.codes.specs.Written.{Run, elementsOf, purgeElement, Wrapped, onLine, writtenMost, wrapped, wrapFrom, joined, rendered}
+use Rattle.codes.specs.Written.{Run, elementsOf, purgeElement, Wrapped, onLine, writtenMost, wrapped, wrapFrom, inOrder, rendered}
 use Rattle.roundtrip.proofs.Split.{Word, endedLines, body-joined, wrap-words, first-line, lines-rendered}
 use Rattle.roundtrip.proofs.Said.{Fine, element-short, element-opens}
 use Rattle.roundtrip.proofs.Runs.{words-spans}
@@ -25,7 +25,7 @@ pub record Opening (at : ℕ) (text : List ℕ) : Type 0 where
 module _ (at : ℕ) (rest : List ℕ) where
   opening : {e : List ℕ} {es : List (List ℕ)} → length e ≤ writtenMost → All Word (e ∷ es) → ((t : List ℕ) → opens (e ++ t) ≡ true)
       → Opening at (rendered (wrapped (e ∷ es)) ++ rest)
-  unfolding linesAt endedLines joined rendered
+  unfolding linesAt endedLines inOrder rendered
   opening {e} {es} h ws f =
       let v : Wrapped = wrapFrom (0 + length e) es in
       let q : wrapFrom 0 (e ∷ es) ≡ onLine e v = first-line e es h in
@@ -35,7 +35,7 @@ module _ (at : ℕ) (rest : List ℕ) where
         lines = _;
         are = lines-rendered at rest ws;
         start = refl;
-        first = ap opens (body-joined (wrap-words 0 ws .now)) ∙ ap (λ (x : Wrapped). opens (joined (x .line))) q ∙ f (joined (v .line));
+        first = ap opens (body-joined (wrap-words 0 ws .now)) ∙ ap (λ (x : Wrapped). opens (inOrder (x .line))) q ∙ f (inOrder (v .line));
       }
 
   pub spans-open : (s : Stamp) {rs : List Run} → All Fine rs → (rs ≡ [] → ⊥) → Opening at (rendered (wrapped (elementsOf none rs ++ (purgeElement s ∷ []))) ++ rest)

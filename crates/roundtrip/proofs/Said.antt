@@ -16,7 +16,7 @@ use Rattle.calendar.proofs.Laws.{time-true}
 use Rattle.calendar.specs.declared.Stamp.{Stamp}
 use Rattle.codes.specs.Places.{prefixOf, threeOf, twoBytes, threeBytes, prefixBytes, prefixes, placesEnd}
 use Rattle.codes.specs.Elements.{covers, purge, numbers, time, short, said}
-use Rattle.codes.specs.Written.{heading, upTo, Run, elementOf, purgeElement, writtenMost}
+use Rattle.codes.specs.Written.{newPrefix, upTo, Run, elementOf, purgeElement, writtenMost}
 use Rattle.roundtrip.proofs.Split.{Word, ends, byte}
 
 -- ---- digits and letters
@@ -110,7 +110,7 @@ short-tail : (p n k : ℕ) → n + k ≤ 999 → said (some p) (tailOf n k) ≡ 
 short-tail p n zero h = said-short p n (omega arith) 45 [] refl
 short-tail p n (suc k) h = said-short p n (omega arith) 62 _ refl
 
-said-headed : (last : Option ℕ) (p n k : ℕ) → p < prefixes → n + k ≤ 999 → said last (heading last p ++ tailOf n k) ≡ numbers p (tailOf n k)
+said-headed : (last : Option ℕ) (p n k : ℕ) → p < prefixes → n + k ≤ 999 → said last (newPrefix last p ++ tailOf n k) ≡ numbers p (tailOf n k)
 said-headed none p n k h g = said-full none p (tailOf n k) h
 said-headed (some q) p n k h g =
     by (eqb q p) (λ e. rw (e, eqb-true q p e) (short-tail p n k g))
@@ -140,7 +140,7 @@ word-tail : (n k : ℕ) → Word (tailOf n k)
 word-tail n zero = word-three n ends
 word-tail n (suc k) = word-three n (byte {b = 62} (omega arith) (word-three (n + suc k) ends))
 
-word-headed : (last : Option ℕ) (p : ℕ) {t : List ℕ} → Word t → Word (heading last p ++ t)
+word-headed : (last : Option ℕ) (p : ℕ) {t : List ℕ} → Word t → Word (newPrefix last p ++ t)
 word-headed none p w = word-prefix p w
 word-headed (some q) p {t} w = either-way (λ (x : List ℕ). Word (x ++ t)) (eqb q p) w (word-prefix p w)
 
@@ -153,7 +153,7 @@ unfolding purgeElement
 word-purge s = word-two (s .day) (word-two (s .hour) (word-two (s .minute) ends))
 
 -- ---- no element is longer than a line
-headed-short : (last : Option ℕ) (p : ℕ) (t : List ℕ) → length t ≤ 8 → length (heading last p ++ t) ≤ writtenMost
+headed-short : (last : Option ℕ) (p : ℕ) (t : List ℕ) → length t ≤ 8 → length (newPrefix last p ++ t) ≤ writtenMost
 headed-short none p t h = omega arith
 headed-short (some q) p t h = either-way (λ (x : List ℕ). length (x ++ t) ≤ writtenMost) (eqb q p) {x = []} {y = prefixBytes p} (omega arith) (omega arith)
 

@@ -11,7 +11,7 @@ use Rattle.laws.proofs.Lists.{All, all-nil, all-cons}
 use Rattle.lines.specs.Bytes.{bytes, lf, exactly}
 use Rattle.lines.specs.Lines.{pieces, lineEnd, bodyOf, linesAt, linesFrom}
 use Rattle.codes.specs.Elements.{Element, dash, elementsAt, elementsOfBody, elementsOfLines, elementsFrom}
-use Rattle.codes.specs.Written.{fits, Wrapped, onLine, onNext, writtenMost, wrapFrom, joined, rendered, wrapped}
+use Rattle.codes.specs.Written.{fits, Wrapped, onLine, onNext, writtenMost, wrapFrom, inOrder, rendered, wrapped}
 
 -- ---- an element's bytes: above `-`, and then `-`
 pub data Word : List ℕ → Type 0 where
@@ -23,10 +23,10 @@ unfolding pieces
 pieces-word ends t = refl
 pieces-word (byte {b} h w) t = rw (ne-eqb b dash (omega arith), pieces-word w t)
 
-pieces-joined : {l : List (List ℕ)} → All Word l → pieces dash (joined l) ≡ l
-unfolding pieces joined
+pieces-joined : {l : List (List ℕ)} → All Word l → pieces dash (inOrder l) ≡ l
+unfolding pieces inOrder
 pieces-joined all-nil = refl
-pieces-joined (all-cons {x = e} {xs = es} w ws) = pieces-word w (joined es) ∙ ap (λ (x : List (List ℕ)). e ∷ x) (pieces-joined ws)
+pieces-joined (all-cons {x = e} {xs = es} w ws) = pieces-word w (inOrder es) ∙ ap (λ (x : List (List ℕ)). e ∷ x) (pieces-joined ws)
 
 -- ---- bytes that end no line
 abbrev High : ℕ → Type 0
@@ -36,8 +36,8 @@ word-high : {e t : List ℕ} → Word e → All High t → All High (e ++ t)
 word-high ends h = all-cons {x = dash} (omega arith) h
 word-high (byte {b} k w) h = all-cons {x = b} (omega arith) (word-high w h)
 
-joined-high : {l : List (List ℕ)} → All Word l → All High (joined l)
-unfolding joined
+joined-high : {l : List (List ℕ)} → All Word l → All High (inOrder l)
+unfolding inOrder
 joined-high all-nil = all-nil
 joined-high (all-cons w ws) = word-high w (joined-high ws)
 
@@ -57,26 +57,26 @@ body-line (all-cons {x = b} h a) = rw (ne-eqb b 10 (omega arith), ne-eqb b 13 (o
 -- ---- the lines, each with its end
 unfoldable pub endedLines : List (List (List ℕ)) → List (List ℕ)
 endedLines [] = []
-endedLines (l ∷ ls) = (joined l ++ crcrlf) ∷ endedLines ls
+endedLines (l ∷ ls) = (inOrder l ++ crcrlf) ∷ endedLines ls
 
 pieces-rendered : {ls : List (List (List ℕ))} → All (All Word) ls → (rest : List ℕ) → pieces lf (rendered ls ++ rest) ≡ endedLines ls ++ pieces lf rest
 unfolding endedLines rendered
 pieces-rendered all-nil rest = refl
 pieces-rendered (all-cons {x = l} {xs = ls} w ws) rest =
-    ap (pieces lf) (append-assoc (joined l) (crcrlf ++ rendered ls) rest)
+    ap (pieces lf) (append-assoc (inOrder l) (crcrlf ++ rendered ls) rest)
     ∙ pieces-line (joined-high w) (rendered ls ++ rest)
-    ∙ ap (λ (x : List (List ℕ)). (joined l ++ crcrlf) ∷ x) (pieces-rendered ws rest)
+    ∙ ap (λ (x : List (List ℕ)). (inOrder l ++ crcrlf) ∷ x) (pieces-rendered ws rest)
 
 -- a line of words splits into those words
-line-start : (at : ℕ) {e : List ℕ} {l : List (List ℕ)} → All Word (e ∷ l) → elementsOfBody at (joined (e ∷ l)) ≡ elementsAt at (pieces dash (joined (e ∷ l)))
-unfolding joined
+line-start : (at : ℕ) {e : List ℕ} {l : List (List ℕ)} → All Word (e ∷ l) → elementsOfBody at (inOrder (e ∷ l)) ≡ elementsAt at (pieces dash (inOrder (e ∷ l)))
+unfolding inOrder
 line-start at (all-cons ends ws) = refl
 line-start at (all-cons (byte h w) ws) = refl
 
-pub body-joined : {l : List (List ℕ)} → All Word l → bodyOf (joined l ++ crcrlf) ≡ joined l
+pub body-joined : {l : List (List ℕ)} → All Word l → bodyOf (inOrder l ++ crcrlf) ≡ inOrder l
 body-joined ws = body-line (joined-high ws)
 
-line-elements : {e : List ℕ} {l : List (List ℕ)} → All Word (e ∷ l) → (at : ℕ) → elementsOfBody at (bodyOf (joined (e ∷ l) ++ crcrlf)) ≡ elementsAt at (e ∷ l)
+line-elements : {e : List ℕ} {l : List (List ℕ)} → All Word (e ∷ l) → (at : ℕ) → elementsOfBody at (bodyOf (inOrder (e ∷ l) ++ crcrlf)) ≡ elementsAt at (e ∷ l)
 line-elements {e} {l} ws at = ap (elementsOfBody at) (body-joined ws) ∙ line-start at ws ∙ ap (elementsAt at) (pieces-joined ws)
 
 -- ---- wrapping: on this line or on the next
@@ -111,7 +111,7 @@ seen at at′ w more = elementsAt at (w .line) ++ elementsOfLines (linesAt at′
 
 module _ (more : List (List ℕ)) where
   after : ℕ → List ℕ → Wrapped → ℕ
-  after at e w = at + length (joined (e ∷ w .line) ++ crcrlf)
+  after at e w = at + length (inOrder (e ∷ w .line) ++ crcrlf)
 
   next-line : (at at′ : ℕ) (e : List ℕ) (w : Wrapped) → All Word (e ∷ w .line) → seen at at′ (onNext e w) more ≡ seen at′ (after at′ e w) (onLine e w) more
   unfolding elementsAt elementsOfLines linesAt endedLines after

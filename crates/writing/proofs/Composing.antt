@@ -14,7 +14,7 @@ use Rattle.codes.specs.Written.{runsOf, spansOf, elementsOf, purgeElement, bloc
 use Rattle.codes.specs.Places.{upward}
 use Rattle.writing.specs.Ink.{open-one, inkFrom}
 use Rattle.writing.proofs.Ink.{ink-start}
-use Rattle.writing.specs.Pen.{Stored, Inked, ahead, Fine, Turned, closing, closeMost, Closed, blockMost, Composed}
+use Rattle.writing.specs.Pen.{Stored, Inked, ahead, FineState, Turned, closing, closeMost, Closed, blockMost, Composed}
 use Rattle.codes.specs.declared.Last.the-variants as last
 use Rattle.writing.specs.declared.Pen.{Pen}
 use Rattle.writing.specs.declared.State.{State}
@@ -30,7 +30,7 @@ pub record Begun (a b : List ℕ) (s : State) (i : ℕ) (ps : List ℕ) : Type 0
   pub done : List (List ℕ)
   pub inked : Inked a b origin (s .pen) done
   pub whole : elementsOf none (spansOf (runsOf ps)) ≡ done ++ ahead s (drop i ps)
-  pub fine : Fine s
+  pub fine : FineState s
   pub few : length done + suc (s .more) ≤ i
   pub within : i ≤ length ps
 

@@ -12,7 +12,7 @@ use borrow.Author.Tests.{eqb-true, eqb-false, not-true}
 use Rattle.laws.proofs.Tests.{by, and-left, and-right}
 use Rattle.lines.specs.Bytes.{bytes}
 use Rattle.codes.specs.Places.{upward}
-use Rattle.codes.specs.Written.{Run, single, joins, join, runsOf, parted, spansOf, elementsOf, fits, wrapFrom, wrapped, joined, rendered}
+use Rattle.codes.specs.Written.{Run, single, joins, join, runsOf, parted, spansOf, elementsOf, fits, wrapFrom, wrapped, inOrder, rendered}
 use Rattle.writing.specs.Ink.{Open, open-one, open-more, inkFrom}
 
 -- ---- an open run
@@ -96,14 +96,14 @@ unfolding inkFrom
 ink-start es = refl
 
 pub ink-end : (n : ℕ) → inkFrom n [] ≡ bytes "\r\r\n"
-unfolding inkFrom wrapFrom joined rendered
+unfolding inkFrom wrapFrom inOrder rendered
 ink-end n = refl
 
 pub ink-on : (n : ℕ) (e : List ℕ) (es : List (List ℕ)) → fits n e ≡ true → inkFrom n (e ∷ es) ≡ e ++ inkFrom (n + length e) es
-unfolding inkFrom wrapFrom joined rendered
+unfolding inkFrom wrapFrom inOrder rendered
 ink-on n e es h = rw h (append-assoc e _ _)
 
 pub ink-next : (n : ℕ) (e : List ℕ) (es : List (List ℕ)) → fits n e ≡ false
     → inkFrom n (e ∷ es) ≡ bytes "\r\r\n" ++ (e ++ inkFrom (length e) es)
-unfolding inkFrom wrapFrom joined rendered
+unfolding inkFrom wrapFrom inOrder rendered
 ink-next n e es h = rw h (ap (λ (x : List ℕ). bytes "\r\r\n" ++ x) (append-assoc e _ _))

@@ -13,7 +13,7 @@ use Rattle.codes.specs.Written.{parted, elementOf, elementsOf, writtenMost}
 use Rattle.writing.specs.Ink.{inkFrom}
 use Rattle.writing.proofs.Ink.{ink-on, ink-next}
 use Rattle.writing.proofs.Spelling.{stored-none, stored-on}
-use Rattle.writing.specs.Pen.{Stored, elementMost, run, Room, Inked}
+use Rattle.writing.specs.Pen.{Stored, elementMost, runFrom, Room, Inked}
 use Rattle.writing.specs.declared.Pen.{Pen}
 
 pub inked-none : (a : List ℕ) (p : Pen) → p .col ≤ writtenMost → Inked a a p p []
@@ -65,17 +65,17 @@ module _ (a b c : List ℕ) (p q : Pen) (n k : ℕ) (e : List ℕ) (m : n ≡ le
       }
 
 -- ---- a run
-parted-one : (lo more : ℕ) → (more ≡ 1 → ⊥) → parted lo more ≡ run lo more ∷ []
+parted-one : (lo more : ℕ) → (more ≡ 1 → ⊥) → parted lo more ≡ runFrom lo more ∷ []
 parted-one lo zero h = refl
 parted-one lo (suc zero) h = absurd (h refl)
 parted-one lo (suc (suc n)) h = refl
 
 module _ (a : List ℕ) (last : Option ℕ) (lo more : ℕ) (p : Pen) where
-  pub flush-one : (more ≡ 1 → ⊥) → (b : List ℕ) (r : Pen) → Inked a b p r (elementOf last (run lo more) ∷ []) → Inked a b p r (elementsOf last (parted lo more))
+  pub flush-one : (more ≡ 1 → ⊥) → (b : List ℕ) (r : Pen) → Inked a b p r (elementOf last (runFrom lo more) ∷ []) → Inked a b p r (elementsOf last (parted lo more))
   unfolding elementsOf
   flush-one h b r d = rw (parted-one lo more h) d
 
-  pub flush-two : more ≡ 1 → (b c : List ℕ) (q r : Pen) → Inked a b p q (elementOf last (run lo 0) ∷ [])
-      → Inked b c q r (elementOf (some (lo / 1000)) (run (lo + 1) 0) ∷ []) → Inked a c p r (elementsOf last (parted lo more))
+  pub flush-two : more ≡ 1 → (b c : List ℕ) (q r : Pen) → Inked a b p q (elementOf last (runFrom lo 0) ∷ [])
+      → Inked b c q r (elementOf (some (lo / 1000)) (runFrom (lo + 1) 0) ∷ []) → Inked a c p r (elementsOf last (parted lo more))
   unfolding elementsOf
   flush-two h b c q r d g = rw (h, ← add-one lo) (inked-on d g)

@@ -1,5 +1,6 @@
 pub mod Ink
 pub mod Sets
+pub mod Bound
 pub mod Spelling
 pub mod Inking
 pub mod Turning

@@ -13,8 +13,8 @@ use Rattle.calendar.specs.Calendar.{isTime}
 use Rattle.calendar.proofs.Laws.{time-true}
 use Rattle.calendar.specs.declared.Stamp.{Stamp}
 use Rattle.codes.specs.Places.{twoBytes, threeBytes, prefixBytes}
-use Rattle.codes.specs.Written.{heading, upTo, elementOf, purgeElement}
-use Rattle.writing.specs.Pen.{Stored, run}
+use Rattle.codes.specs.Written.{newPrefix, upTo, elementOf, purgeElement}
+use Rattle.writing.specs.Pen.{Stored, runFrom}
 
 -- ---- texts that are stored
 pub stored-none : (a : List ℕ) (i : ℕ) → Stored a a i i []
@@ -37,11 +37,11 @@ stored-on {a} {i = i} {s = s} {t = t} f g =
     record { end = omega (arith, f .end, g .end, length-append s t); bytes = sets-then a i s t (f .bytes) (f .end) (g .bytes) }
 
 -- ---- an element's parts
-module _ (a : List ℕ) (i : ℕ) (last : Option ℕ) (p : ℕ) (t : Bool) (e : heading last p ≡ cond t [] (prefixBytes p)) where
-  pub stored-known : t ≡ true → Stored a a i i (heading last p)
+module _ (a : List ℕ) (i : ℕ) (last : Option ℕ) (p : ℕ) (t : Bool) (e : newPrefix last p ≡ cond t [] (prefixBytes p)) where
+  pub stored-known : t ≡ true → Stored a a i i (newPrefix last p)
   stored-known h = rw (e, h) (stored-none a i)
 
-  pub stored-new : t ≡ false → (b : List ℕ) (k : ℕ) → Stored a b i k (prefixBytes p) → Stored a b i k (heading last p)
+  pub stored-new : t ≡ false → (b : List ℕ) (k : ℕ) → Stored a b i k (prefixBytes p) → Stored a b i k (newPrefix last p)
   stored-new h b k s = rw (e, h) s
 
 up-to-more : (n more : ℕ) → (more ≡ 0 → ⊥) → upTo n more ≡ bytes ">" ++ threeBytes (n + more)
@@ -56,12 +56,12 @@ module _ (a : List ℕ) (i n more : ℕ) where
   stored-range h b k s = rw (up-to-more n more h) (stored-on (stored-one a i 62) s)
 
 -- how long it is behind its prefix: `nnn-` or `nnn>mmm-`
-module _ (last : Option ℕ) (lo more n : ℕ) (e : n ≡ length (heading last (lo / 1000))) where
-  pub long-single : more ≡ 0 → n + 4 ≡ length (elementOf last (run lo more))
+module _ (last : Option ℕ) (lo more n : ℕ) (e : n ≡ length (newPrefix last (lo / 1000))) where
+  pub long-single : more ≡ 0 → n + 4 ≡ length (elementOf last (runFrom lo more))
   unfolding elementOf
   long-single h = rw h (simp length-append (omega arith))
 
-  pub long-range : (more ≡ 0 → ⊥) → n + 8 ≡ length (elementOf last (run lo more))
+  pub long-range : (more ≡ 0 → ⊥) → n + 8 ≡ length (elementOf last (runFrom lo more))
   unfolding elementOf
   long-range h = rw (up-to-more (lo % 1000) more h) (simp length-append (omega arith))
 
@@ -74,8 +74,8 @@ module _ {a b c d : List ℕ} {i j k l : ℕ} where
   stored-dash : {s t u : List ℕ} → Stored a b i j s → Stored b c j k t → Stored c d k l u → Stored a (set d l 45) i (l + 1) (s ++ (t ++ (u ++ bytes "-")))
   stored-dash f g h = stored-on f (stored-on g (stored-on h (stored-one d l 45)))
 
-  pub stored-element : (last : Option ℕ) (lo more : ℕ) → Stored a b i j (heading last (lo / 1000)) → Stored b c j k (threeBytes (lo % 1000))
-      → Stored c d k l (upTo (lo % 1000) more) → Stored a (set d l 45) i (l + 1) (elementOf last (run lo more))
+  pub stored-element : (last : Option ℕ) (lo more : ℕ) → Stored a b i j (newPrefix last (lo / 1000)) → Stored b c j k (threeBytes (lo % 1000))
+      → Stored c d k l (upTo (lo % 1000) more) → Stored a (set d l 45) i (l + 1) (elementOf last (runFrom lo more))
   unfolding elementOf
   stored-element last lo more = stored-dash
 

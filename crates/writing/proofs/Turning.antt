@@ -12,7 +12,7 @@ use Rattle.codes.specs.Written.{joins, parted, runsOf, spansOf, elementsOf, pur
 use Rattle.codes.specs.Places.{upward}
 use Rattle.writing.specs.Ink.{open-one, inkFrom}
 use Rattle.writing.proofs.Ink.{at-end, at-gap, joins-next, open-next, upward-next, elements-close, parted-few, ink-end}
-use Rattle.writing.specs.Pen.{Stored, inkMost, Inked, ahead, Fine, Turned, closing, Closed}
+use Rattle.writing.specs.Pen.{Stored, inkMost, Inked, ahead, FineState, Turned, closing, Closed}
 use Rattle.codes.specs.Cursor.{lastOf}
 use Rattle.codes.specs.declared.Last.the-variants as last
 use Rattle.writing.specs.declared.Pen.{Pen}
@@ -24,7 +24,7 @@ use Rattle.writing.proofs.Inking.{inked-none, inked-on}
 abbrev ofRun : State → List (List ℕ)
 ofRun s = elementsOf (lastOf (s .last)) (parted (s .lo) (s .more))
 
-module _ (a : List ℕ) (s : State) (fine : Fine s) (q : ℕ) (h : q < placesEnd) (t : Bool) (e : t ≡ joins (s .lo + s .more) q) where
+module _ (a : List ℕ) (s : State) (fine : FineState s) (q : ℕ) (h : q < placesEnd) (t : Bool) (e : t ≡ joins (s .lo + s .more) q) where
   pub turn-join : t ≡ true → Turned a a s (record { pen = s .pen; last = s .last; lo = s .lo; more = s .more + 1 }) q
   turn-join k =
       let j : joins (s .lo + s .more) q ≡ true = sym e ∙ k in
@@ -51,7 +51,7 @@ module _ (a : List ℕ) (s : State) (fine : Fine s) (q : ℕ) (h : q < placesEnd
         few = omega (arith, parted-few (lastOf (s .last)) (s .lo) (s .more));
       }
 
-module _ (a c : List ℕ) (s : State) (r : Pen) (stamp : Stamp) (fine : Fine s) where
+module _ (a c : List ℕ) (s : State) (r : Pen) (stamp : Stamp) (fine : FineState s) where
   -- where no place follows, the run and the purge are the last elements
   closing-is : (w : Inked a c (s .pen) r (ofRun s ++ (purgeElement stamp ∷ []))) → closing s stamp ≡ w .ink ++ bytes "\r\r\n"
   unfolding runsOf spansOf elementsOf

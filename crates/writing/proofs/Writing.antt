@@ -17,7 +17,7 @@ use Rattle.calendar.specs.declared.Dated.{Dated}
 use Rattle.calendar.specs.declared.Dated.the-variants as dated
 use Rattle.calendar.proofs.Laws.{date-time}
 use Rattle.codes.specs.Written.{written}
-use Rattle.writing.specs.Write.{datedBlock, blockOf, fitting, writeRule, Writes}
+use Rattle.writing.specs.Write.{datedBlock, writtenBlock, fitting, writeRule, Writes}
 use Rattle.codes.specs.Places.{isSet}
 use Rattle.writing.specs.Pen.{Composed}
 use Rattle.writing.specs.declared.Written.{Written}
@@ -30,15 +30,15 @@ refuses out places minute number e r q = record { answer = rw (q, e); output = r
 
 module _ (out places : List ℕ) (minute : ℕ) (t : Bool) (et : t ≡ isSet places) where
   pub writes-no-set : t ≡ false → (r : Written) → r ≡ Refused (refusalFor outOfRange 0) → Writes out out places minute r
-  unfolding writeRule blockOf andThen
+  unfolding writeRule writtenBlock andThen
   writes-no-set n = refuses out places minute 24 (rw (← et, n))
 
   module _ (y : t ≡ true) (d : Dated) (ed : paperDated d ≡ dateOf minute) where
     pub writes-set : isSet places ≡ true
     writes-set = sym et ∙ y
 
-    block-is : blockOf places minute ≡ datedBlock places (paperDated d)
-    unfolding blockOf
+    block-is : writtenBlock places minute ≡ datedBlock places (paperDated d)
+    unfolding writtenBlock
     block-is = rw (← et, y, ← ed)
 
     pub writes-no-date : d ≡ dated.Nothing → (r : Written) → r ≡ Refused (refusalFor outOfRange 0) → Writes out out places minute r

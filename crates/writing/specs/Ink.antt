@@ -1,4 +1,4 @@
--- The written form, seen by a pen that goes from left to right: one open run, one column.
+-- Serves the code and its proofs only: the written form, seen by a pen that goes from left to right, with one open run and one column.
 use Prim.Native.Nat.{ℕ, suc}
 use mathlib.Core.Path.{_≡_}
 use mathlib.Core.Bool.{true}

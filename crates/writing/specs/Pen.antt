@@ -1,4 +1,4 @@
--- What the writer's steps leave: bytes set one after the other, the elements of a run, the whole block.
+-- Serves the code and its proofs only: what the writer's steps leave, that is bytes set one after the other, the elements of a run, the whole block.
 use Prim.Native.Nat.{ℕ, suc, _+_, _*_, _≤_, _<_}
 use mathlib.Core.Path.{_≡_}
 use mathlib.Core.List.{List, [], _∷_, _++_}
@@ -24,8 +24,8 @@ abbrev pub elementMost : ℕ
 elementMost = 11
 
 -- lo and so many more
-abbrev pub run : ℕ → ℕ → Run
-run lo more = record { first = lo; more = more }
+abbrev pub runFrom : ℕ → ℕ → Run
+runFrom lo more = record { first = lo; more = more }
 
 -- ---- elements set in lines
 -- The pen went from p to q, to a new line or not at all, and there an element of n bytes goes: whatever elements follow it, the text goes on behind it.
@@ -53,7 +53,7 @@ pub record Inked (a b : List ℕ) (p r : Pen) (es : List (List ℕ)) : Type 0 wh
 abbrev pub ahead : State → List ℕ → List (List ℕ)
 ahead s qs = elementsOf (lastOf (s .last)) (spansOf (runsOf (upward (s .lo) (suc (s .more)) ++ qs)))
 
-pub record Fine (s : State) : Type 0 where
+pub record FineState (s : State) : Type 0 where
   pub joined : Open (s .lo) (s .more)
   pub below : s .lo + s .more < placesEnd
   pub low : s .pen .col ≤ writtenMost
@@ -63,7 +63,7 @@ pub record Turned (a b : List ℕ) (s r : State) (q : ℕ) : Type 0 where
   pub done : List (List ℕ)
   pub inked : Inked a b (s .pen) (r .pen) done
   pub keeps : (qs : List ℕ) → ahead s (q ∷ qs) ≡ done ++ ahead r qs
-  pub fine : Fine r
+  pub fine : FineState r
   pub few : length done + r .more ≤ suc (s .more)
 
 -- the text that is left where no place follows: two elements at most, the purge, and a line's end

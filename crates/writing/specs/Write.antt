@@ -20,15 +20,15 @@ abbrev pub datedBlock : List ℕ → Option Date → Answer (List ℕ)
 datedBlock ps none = refused outOfRange 0
 datedBlock ps (some d) = ok (written ps (d .stamp))
 
-unfoldable pub blockOf : List ℕ → ℕ → Answer (List ℕ)
-blockOf ps minute = cond (isSet ps) (datedBlock ps (dateOf minute)) (refused outOfRange 0)
+unfoldable pub writtenBlock : List ℕ → ℕ → Answer (List ℕ)
+writtenBlock ps minute = cond (isSet ps) (datedBlock ps (dateOf minute)) (refused outOfRange 0)
 
 -- "output shorter than the block"
 unfoldable pub fitting : ℕ → List ℕ → Answer (List ℕ)
 fitting room block = cond (leb (length block) room) (ok block) (refused outputShort 0)
 
 unfoldable pub writeRule : ℕ → List ℕ → ℕ → Answer (List ℕ)
-writeRule room ps minute = andThen (blockOf ps minute) (fitting room)
+writeRule room ps minute = andThen (writtenBlock ps minute) (fitting room)
 
 -- "its length is answered and later bytes stay"; a refusal "changes no lent byte"
 abbrev pub lengthOf : Answer (List ℕ) → Answer ℕ

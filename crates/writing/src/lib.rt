@@ -8,10 +8,10 @@ ghost use lib.Seq.{sets};
 ghost use Rattle.lines.specs.Bytes.{bytes};
 ghost use Rattle.calendar.specs.Calendar.{isTime};
 ghost use Rattle.codes.specs.Places.{prefixes, placesEnd, twoBytes, threeBytes, prefixBytes, isSet};
-ghost use Rattle.codes.specs.Written.{joins, parted, heading, upTo, elementOf, elementsOf, purgeElement, writtenMost, written};
+ghost use Rattle.codes.specs.Written.{joins, parted, newPrefix, upTo, elementOf, elementsOf, purgeElement, writtenMost, written};
 ghost use Rattle.writing.specs.Ink.{Open};
 ghost use Rattle.writing.specs.Write.{Writes};
-ghost use Rattle.writing.specs.Pen.{Stored, elementMost, run, Room, inkMost, Inked, Fine, Turned, closeMost, Closed, blockMost, Composed};
+ghost use Rattle.writing.specs.Pen.{Stored, elementMost, runFrom, Room, inkMost, Inked, FineState, Turned, closeMost, Closed, blockMost, Composed};
 ghost use Rattle.codes.specs.Cursor.{lastOf};
 use calendar::Dated;
 use calendar::Stamp;
@@ -72,7 +72,7 @@ fn is_set(places: &[u32]) -> bool
 
 // Whether p is the prefix of the last element.
 fn is_last(last: Last, p: u32) -> bool
-    ensures { λ r. ⌜ heading (lastOf last) p ≡ cond r [] (prefixBytes p) ⌝ }
+    ensures { λ r. ⌜ newPrefix (lastOf last) p ≡ cond r [] (prefixBytes p) ⌝ }
 {
     match last {
         Last::Prefix(q) => q == p,
@@ -130,9 +130,9 @@ fn put_prefix(out: &mut [u8], pos: usize, p: u32) -> usize
 }
 
 // The prefix, unless it is that of the last element.
-fn put_heading(out: &mut [u8], pos: usize, last: Last, p: u32) -> usize
+fn put_new_prefix(out: &mut [u8], pos: usize, last: Last, p: u32) -> usize
     requires { ⌜ (pos + 3 ≤ length (now out)) × (p < prefixes) ⌝ }
-    ensures { λ r. ⌜ Stored (now (out .entry)) (now (out .exit)) pos r (heading (lastOf last) p) ⌝ }
+    ensures { λ r. ⌜ Stored (now (out .entry)) (now (out .exit)) pos r (newPrefix (lastOf last) p) ⌝ }
     ensures most { λ r. ⌜ r ≤ pos + 3 ⌝ }
 {
     if is_last(last, p) {
@@ -157,18 +157,18 @@ fn put_end(out: &mut [u8], pos: usize, n: u32, more: u32) -> usize
 // The element of lo and so many more.
 fn put_element(out: &mut [u8], pos: usize, last: Last, lo: u32, more: u32) -> usize
     requires { ⌜ (pos + elementMost ≤ length (now out)) × (lo < placesEnd) × (lo % 1000 + more ≤ 999) ⌝ }
-    ensures { λ r. ⌜ Stored (now (out .entry)) (now (out .exit)) pos r (elementOf (lastOf last) (run lo more)) ⌝ }
+    ensures { λ r. ⌜ Stored (now (out .entry)) (now (out .exit)) pos r (elementOf (lastOf last) (runFrom lo more)) ⌝ }
 {
     let n = lo % 1000;
-    let number = put_heading(&mut *out, pos, last, lo / 1000);
+    let number = put_new_prefix(&mut *out, pos, last, lo / 1000);
     let range = put_three(&mut *out, number, n);
     let end = put_end(&mut *out, range, n, more);
     out[end] = b'-';
     end + 1
 }
 
-fn heading_length(last: Last, p: u32) -> usize
-    ensures { λ r. ⌜ r ≡ length (heading (lastOf last) p) ⌝ }
+fn new_prefix_length(last: Last, p: u32) -> usize
+    ensures { λ r. ⌜ r ≡ length (newPrefix (lastOf last) p) ⌝ }
     ensures most { λ r. ⌜ r ≤ 3 ⌝ }
 {
     if is_last(last, p) {
@@ -179,10 +179,10 @@ fn heading_length(last: Last, p: u32) -> usize
 
 // How many bytes the element of lo and so many more has, `nnn-` or `nnn>mmm-` behind its prefix.
 fn element_length(last: Last, lo: u32, more: u32) -> usize
-    ensures { λ r. ⌜ r ≡ length (elementOf (lastOf last) (run lo more)) ⌝ }
+    ensures { λ r. ⌜ r ≡ length (elementOf (lastOf last) (runFrom lo more)) ⌝ }
     ensures most { λ r. ⌜ r ≤ elementMost ⌝ }
 {
-    let n = heading_length(last, lo / 1000);
+    let n = new_prefix_length(last, lo / 1000);
     if more == 0 {
         return n + 4;
     }
@@ -234,7 +234,7 @@ fn make_room(out: &mut [u8], pen: Pen, n: usize) -> Pen
 // Sets the element of lo and so many more in the line, or in a new one.
 fn add(out: &mut [u8], pen: Pen, last: Last, lo: u32, more: u32) -> Pen
     requires { ⌜ (lo < placesEnd) × (lo % 1000 + more ≤ 999) × (pen .pos + inkMost ≤ length (now out)) × (pen .col ≤ writtenMost) ⌝ }
-    ensures { λ r. ⌜ Inked (now (out .entry)) (now (out .exit)) pen r (elementOf (lastOf last) (run lo more) ∷ []) ⌝ }
+    ensures { λ r. ⌜ Inked (now (out .entry)) (now (out .exit)) pen r (elementOf (lastOf last) (runFrom lo more) ∷ []) ⌝ }
 {
     let n = element_length(last, lo, more);
     let at = make_room(&mut *out, pen, n);
@@ -280,7 +280,7 @@ fn flush(out: &mut [u8], pen: Pen, last: Last, lo: u32, more: u32) -> Pen
 
 // The next place: it joins the open run, or that is written and the place opens another.
 fn turn(out: &mut [u8], s: State, q: u32) -> State
-    requires { ⌜ Fine s × (q < placesEnd) × (s .pen .pos + 2 * inkMost ≤ length (now out)) ⌝ }
+    requires { ⌜ FineState s × (q < placesEnd) × (s .pen .pos + 2 * inkMost ≤ length (now out)) ⌝ }
     ensures { λ r. ⌜ Turned (now (out .entry)) (now (out .exit)) s r q ⌝ }
 {
     let pen = s.pen;
@@ -306,7 +306,7 @@ fn turn(out: &mut [u8], s: State, q: u32) -> State
 
 // The open run, the purge and the line's end.
 fn close(out: &mut [u8], s: State, stamp: Stamp) -> usize
-    requires { ⌜ Fine s × (isTime stamp ≡ true) × (s .pen .pos + closeMost ≤ length (now out)) ⌝ }
+    requires { ⌜ FineState s × (isTime stamp ≡ true) × (s .pen .pos + closeMost ≤ length (now out)) ⌝ }
     ensures { λ r. ⌜ Closed (now (out .entry)) (now (out .exit)) s stamp r ⌝ }
 {
     let pen = s.pen;
