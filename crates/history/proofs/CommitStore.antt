@@ -15,18 +15,14 @@ use Rattle.layout.specs.Lies.{Lies}
 use Rattle.layout.specs.Rule.{segmentsOf}
 use Rattle.layout.specs.declared.Changed.{Changed}
 use Rattle.layout.specs.declared.Changed.the-variants.{Nothing}
-use Rattle.moves.specs.Named.{named}
 use Rattle.moves.specs.Undo.{withHistory}
+use Rattle.moves.proofs.DraftsStale.{staled-nothing}
+use Rattle.moves.proofs.StepsForgot.{Pushes}
 use Rattle.moves.proofs.StepsLies.{parts-low}
-use Rattle.history.specs.Changing.{Stands, Finds, replaced, Leaves}
-use Rattle.history.proofs.Stores.{Replaces, finds-numbers, finds-first, finds-second}
+use Rattle.history.specs.Changing.{named, Stands, Finds, replaced, Leaves}
+use Rattle.history.proofs.Stores.{Replaces, named-among, finds-numbers, finds-first, finds-second}
 
 -- ---- what the moves promise of bytes l before and m after
-abbrev pub Pushes : List ℕ → List ℕ → ℕ → ℕ → Type 0
-Pushes l m first second =
-    (b : Book) → Lies l b → (cs : List Copy) → numbers cs ≡ named first second → first ≤ length (b .segments) → second ≤ length (b .segments)
-    → Lies m (withHistory b (remember (map (oldOf (b .segments)) cs) (b .history)))
-
 abbrev pub Closes : List ℕ → List ℕ → ℕ → Type 0
 Closes l m d = (b : Book) → Lies l b → Lies m (withDrafts b (put (b .drafts) d closed))
 
@@ -73,26 +69,17 @@ pub finish-done : (l l1 m : List ℕ) (d : ℕ) → Closes l l1 d → Seals l1 m
 finish-done l l1 m d p q b lies = q (withDrafts b (put (b .drafts) d closed)) (p b lies)
 
 -- ---- the whole commit
-pub commit-changed-done : (l l1 l2 m : List ℕ) (d first from second other : ℕ) → 1 ≤ first → 9 ≤ from → from < 17 → 9 ≤ other → other < 17
-    → Pushes l l1 first second → Replaces l1 l2 first from second other → Finishes l2 m d → Commits l m d first from second other
-commit-changed-done l l1 l2 m d first from second other one low high low2 high2 p q r b lies sound cs f =
+pub commit-changed-done : (l l1 l2 m : List ℕ) (d first from second other : ℕ) (c : Changed) → segmentsOf c ≡ named first second → 1 ≤ first → 9 ≤ from → from < 17 → 9 ≤ other → other < 17
+    → Pushes l l1 c → Replaces l1 l2 first from second other → Finishes l2 m d → Commits l m d first from second other
+commit-changed-done l l1 l2 m d first from second other c says one low high low2 high2 p q r b lies sound cs f =
     let h : History = remember (map (oldOf (b .segments)) cs) (b .history) in
     let lies1 : Lies l1 (withHistory b h) =
-    p b lies cs (finds-numbers b first from second other cs one f) (finds-first b first from second other cs one f) (finds-second b first from second other cs one f) in
+    p b lies cs (finds-numbers b first from second other cs one f ∙ sym says)
+    (named-among (length (b .segments)) first second c says one (finds-first b first from second other cs one f) (finds-second b first from second other cs one f)) in
     r (replaced (withHistory b h) cs)
     (q (withHistory b h) lies1 (b .issue) (length (b .segments)) (sound .drafts) cs (finds-on b h first from second other cs low high low2 high2 f))
 
 -- ---- no change
--- no draft turns stale
-staled-none : (d : Draft) → staled [] d ≡ d
-unfolding touches
-staled-none closed = refl
-staled-none (working ks stale) = ap (working ks) (or-false stale)
-
-staled-nothing : (ds : List Draft) → map (staled []) ds ≡ ds
-staled-nothing [] = refl
-staled-nothing (d ∷ ds) = λ i. staled-none d i ∷ staled-nothing ds i
-
 pub committed-none : (b : Book) (d : ℕ) → committed b d [] ≡ withDrafts b (put (b .drafts) d closed)
 unfolding stored
 committed-none b d = ap (λ (ds : List Draft). withDrafts b (put ds d closed)) (staled-nothing (b .drafts))

@@ -8,7 +8,7 @@ use native.Mathlib.Omega.{arith}
 use lib.ListN.{length}
 use borrow.Author.Tests.{eq-eqb, ne-eqb}
 use Rattle.laws.proofs.Tests.{by-order, impossible}
-use Rattle.laws.proofs.Lists.{All}
+use Rattle.laws.proofs.Lists.{All, all-nil, all-cons}
 use Rattle.codes.specs.Block.{Content}
 use Rattle.steps.specs.Book.{Copy, Book, put}
 use Rattle.steps.specs.Calls.{withDrafts, staled, stored, numbers}
@@ -16,19 +16,17 @@ use Rattle.layout.specs.Layout.{partOf, heldIn}
 use Rattle.layout.specs.Sound.{FineDraft}
 use Rattle.layout.specs.Lies.{Lies}
 use Rattle.keeping.proofs.Parts.{put-length}
-use Rattle.moves.specs.Named.{named}
+use Rattle.layout.specs.Rule.{segmentsOf}
+use Rattle.layout.specs.declared.Changed.{Changed}
+use Rattle.moves.specs.Named.{Among}
 use Rattle.moves.specs.Undo.{withSegments}
+use Rattle.moves.proofs.DraftsStale.{Marks}
 use Rattle.moves.proofs.StepsLies.{parts-high}
-use Rattle.history.specs.Changing.{FindsOne, FindsTwo, Finds, replaced}
+use Rattle.history.specs.Changing.{named, FindsOne, FindsTwo, Finds, replaced}
 
 -- ---- what the moves promise of bytes l before and m after
 abbrev pub Puts : List ℕ → List ℕ → ℕ → ℕ → Type 0
 Puts l m from s = (b : Book) → Lies l b → (c : Content) → heldIn b (partOf from) ≡ some c → s ≤ length (b .segments) → Lies m (withSegments b (put (b .segments) s c))
-
-abbrev pub Marks : List ℕ → List ℕ → ℕ → ℕ → Type 0
-Marks l m first second =
-    (b : Book) → Lies l b → (issue n : ℕ) → All (FineDraft issue n) (b .drafts) → (cs : List Copy) → numbers cs ≡ named first second
-    → Lies m (withDrafts b (map (staled cs) (b .drafts)))
 
 abbrev pub Stores : List ℕ → List ℕ → ℕ → ℕ → ℕ → ℕ → Type 0
 Stores l m first from second other =
@@ -51,6 +49,15 @@ module _ (b : Book) (first from second other : ℕ) (cs : List Copy) (one : 1 �
 
   pub finds-second : second ≤ length (b .segments)
   finds-second = by-order second 1 (λ h. omega arith) (λ h. f .both one h .stands2 .there)
+
+-- segments that exist, as they are answered
+pub named-among : (n first second : ℕ) (c : Changed) → segmentsOf c ≡ named first second → 1 ≤ first → first ≤ n → second ≤ n → Among n c
+named-among n first second c says one to to2 = record { each = subst (All (λ (s : ℕ). (1 ≤ s) × (s ≤ n))) (sym says) both }
+  where
+    both : All (λ (s : ℕ). (1 ≤ s) × (s ≤ n)) (named first second)
+    both = by-order second 1
+        (λ h. rw (eq-eqb second 0 (omega arith)) (all-cons (one, to) all-nil))
+        (λ h. rw (ne-eqb second 0 (λ z. omega arith)) (all-cons (one, to) (all-cons (h, to2) all-nil)))
 
 -- ---- the stores
 -- what a block behind the segments holds does not depend on them
@@ -78,6 +85,6 @@ module _ (first from second other : ℕ) (one : 1 ≤ first) where
       (e .content) (sym (held-segments b segments from low) ∙ e .stands .held) there)
 
   -- drafts that took one of the segments turn stale
-  pub replace-done : (l l1 m : List ℕ) → Stores l l1 first from second other → Marks l1 m first second → Replaces l m first from second other
-  replace-done l l1 m puts marks b lies issue n fine cs f =
-      marks (withSegments b (stored cs (b .segments))) (puts b lies cs f) issue n fine cs (finds-numbers b first from second other cs one f)
+  pub replace-done : (l l1 m : List ℕ) (c : Changed) → segmentsOf c ≡ named first second → Stores l l1 first from second other → Marks l1 m c → Replaces l m first from second other
+  replace-done l l1 m c says puts marks b lies issue n fine cs f =
+      marks (withSegments b (stored cs (b .segments))) (puts b lies cs f) issue n fine cs (finds-numbers b first from second other cs one f ∙ sym says)

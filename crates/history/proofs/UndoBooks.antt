@@ -23,10 +23,9 @@ use Rattle.layout.proofs.Back.{sound-lies}
 use Rattle.layout.proofs.SoundBack.{sound-book}
 use Rattle.layout.proofs.Said.{step-past}
 use Rattle.layout.proofs.Rules.{does-step, does-nothing}
-use Rattle.moves.specs.Named.{named}
 use Rattle.moves.specs.Undo.{withKept}
 use Rattle.moves.proofs.StepsLies.{lies-count}
-use Rattle.history.specs.Changing.{replaced}
+use Rattle.history.specs.Changing.{named, replaced}
 use Rattle.history.specs.LastStep.{LastStep}
 use Rattle.history.proofs.Stores.{Replaces}
 use Rattle.history.proofs.UndoSteps.{step-count, newest-is, step-finds, step-numbers}

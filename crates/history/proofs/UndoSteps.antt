@@ -16,8 +16,7 @@ use Rattle.layout.proofs.Says.{StepSays, single, pair}
 use Rattle.layout.proofs.Parts.{Parts, sound-parts, step-cases}
 use Rattle.layout.proofs.Said.{copyAt, copies-one, copies-two, segments-length, steps-length, step-of}
 use Rattle.layout.proofs.Stands.{part-before}
-use Rattle.moves.specs.Named.{named}
-use Rattle.history.specs.Changing.{Stands, Finds}
+use Rattle.history.specs.Changing.{named, Stands, Finds}
 use Rattle.history.specs.LastStep.{LastStep}
 use Rattle.history.proofs.Stores.{finds-numbers}
 

@@ -16,6 +16,10 @@ use Rattle.layout.specs.declared.Changed.{Changed}
 use Rattle.history.specs.declared.Found.{Found}
 
 -- ---- in bytes
+-- one segment, and a second one if it is not 0
+abbrev pub named : ℕ → ℕ → List ℕ
+named first second = first ∷ cond (eqb second 0) [] (second ∷ [])
+
 -- is there a segment s, not 0, whose copy in block k differs from it?
 unfoldable pub differing : List ℕ → ℕ → ℕ → Bool
 differing l s k = cond (eqb s 0) false (not (sameList (blockOf s l) (blockOf k l)))

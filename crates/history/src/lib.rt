@@ -12,8 +12,7 @@ ghost use Rattle.layout.specs.Layout.{bytesOf, bookOf, stepOf};
 ghost use Rattle.layout.specs.Sound.{isSound, FineDraft, Sound};
 ghost use Rattle.layout.specs.Lies.{Lies};
 ghost use Rattle.layout.specs.Rule.{Does, segmentsOf};
-ghost use Rattle.history.specs.Changing.{differing, picked, changesIn, Finds, replaced, Leaves};
-ghost use Rattle.moves.specs.Named.{named};
+ghost use Rattle.history.specs.Changing.{named, differing, picked, changesIn, Finds, replaced, Leaves};
 ghost use Rattle.moves.specs.Undo.{withSegments};
 ghost use Rattle.history.specs.LastStep.{LastStep};
 ghost use Rattle.steps.specs.Calls as calls;
@@ -21,6 +20,16 @@ use layout::Changed;
 use layout::Reply;
 
 // ---- what commit and undo share
+// One or two segments as they are answered, second 0 if none.
+fn segments(first: usize, second: usize) -> Changed
+    ensures { λ r. ⌜ segmentsOf r ≡ named first second ⌝ }
+{
+    if second == 0 {
+        return Changed::One(first);
+    }
+    Changed::Two(first, second)
+}
+
 // One or two segments hold what blocks `from` and `other` hold; second is 0 if there is one.
 fn put_blocks(book: &mut [u8], first: usize, from: usize, second: usize, other: usize)
     requires { ⌜ (length (now book) ≡ bookLength) × (1 ≤ first) × (first ≤ 8) × (9 ≤ from) × (from < blockCount) × (second ≤ 8) × (9 ≤ other) × (other < blockCount) ⌝ }
@@ -40,17 +49,8 @@ fn replace(book: &mut [u8], first: usize, from: usize, second: usize, other: usi
     ensures { λ _. ⌜ ((b : Book) → Lies (now (book .entry)) b → (issue n : ℕ) → All (FineDraft issue n) (b .drafts) → (cs : List Copy) → Finds b first from second other cs → Lies (now (book .exit)) (replaced b cs)) ⌝ }
 {
     put_blocks(book, first, from, second, other);
-    moves::mark_stale(book, first, second);
-}
-
-// One or two segments as they are answered, second 0 if none.
-fn segments(first: usize, second: usize) -> Changed
-    ensures { λ r. ⌜ segmentsOf r ≡ named first second ⌝ }
-{
-    if second == 0 {
-        return Changed::One(first);
-    }
-    Changed::Two(first, second)
+    let changed = segments(first, second);
+    moves::mark_stale(book, changed);
 }
 
 // ---- commit
@@ -146,7 +146,8 @@ fn commit_changed(book: &mut [u8], d: usize, first: usize, from: usize, second: 
     requires { ⌜ (length (now book) ≡ bookLength) × (1 ≤ d) × (d ≤ 4) × (getD (now book) 24 0 ≤ stepsMost) × (1 ≤ first) × (first ≤ 8) × (9 ≤ from) × (from < 17) × (second ≤ 8) × (9 ≤ other) × (other < 17) ⌝ }
     ensures { λ _. ⌜ ((b : Book) → Lies (now (book .entry)) b → Sound b → (cs : List Copy) → Finds b first from second other cs → now (book .exit) ≡ bytesOf (committed b d cs)) ⌝ }
 {
-    moves::push_step(book, first, second);
+    let changed = segments(first, second);
+    moves::push_step(book, changed);
     replace(book, first, from, second, other);
     finish(book, d);
 }

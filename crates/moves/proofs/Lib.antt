@@ -1,3 +1,4 @@
+pub mod Segments
 pub mod Index
 pub mod Parts
 pub mod Drafts

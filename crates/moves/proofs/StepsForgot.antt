@@ -18,10 +18,14 @@ use Rattle.steps.specs.Book.{Copy, History, Book}
 use Rattle.steps.specs.Calls.{numbers, oldOf, latest, remember}
 use Rattle.layout.specs.Layout.{segmentOf, heldOf}
 use Rattle.layout.specs.Lies.{Lies}
-use Rattle.moves.specs.Named.{named}
-use Rattle.moves.specs.Undo.{withHistory, withKept}
+use Rattle.layout.specs.Rule.{segmentsOf}
+use Rattle.layout.specs.declared.Changed.{Changed}
+use Rattle.layout.specs.declared.Changed.the-variants.{Nothing, One, Two}
+use Rattle.moves.specs.Named.{Among}
+use Rattle.moves.specs.Undo.{withHistory, withKept, lastFifteen}
 use Rattle.blocks.proofs.Contents.{unused-length}
 use Rattle.blocks.proofs.Blocks.{block-length, put-length}
+use Rattle.moves.proofs.Segments.{one-to, first-to, second-to}
 use Rattle.moves.proofs.StepsStands.{Stands, put-byte, upd, upd-other, upd-at, stands-set, stands-clear, stands-over, stands-same}
 use Rattle.moves.proofs.StepsIndex.{slotOf, slot-none, slot-drop, index-step}
 use Rattle.moves.proofs.StepsLies.{bytesIn, partsIn, parts-past, lies-stands, lies-count, steps-lie}
@@ -168,49 +172,76 @@ module _ (l m m1 m2 : List ℕ) (k : ℕ) (moving : Moving l m k) (done : 30 ≤
       ∙ ap (λ (z : List ℕ). getD z 24 0) e1 ∙ put-byte m0 47 (holding none) 24 long0 (omega arith) (omega arith) unused-length (omega arith)
       ∙ getD-set-other (set (set m 24 15) 62 0) 63 24 0 0 d1 ∙ getD-set-other (set m 24 15) 62 24 0 0 d2 ∙ getD-set-same m 24 15 0 (omega arith)
 
+-- ---- room for a step
+room-full : (steps : List (List Copy)) → length steps ≡ 16 → drop 1 steps ≡ lastFifteen steps
+unfolding lastFifteen
+room-full steps h = let e : 1 ≡ length steps - 15 = omega arith in ap (λ (n : ℕ). drop n steps) e
+
+room-few : (steps : List (List Copy)) → length steps ≤ 15 → steps ≡ lastFifteen steps
+unfolding lastFifteen
+room-few steps h = let e : 0 ≡ length steps - 15 = omega arith in ap (λ (n : ℕ). drop n steps) e
+
+-- what making room promises of bytes l before and m after
+abbrev pub MakesRoom : List ℕ → List ℕ → Type 0
+MakesRoom l m = (b : Book) → Lies l b → Lies m (withKept b (lastFifteen (b .history .kept)))
+
+pub room-forgotten : (l m : List ℕ) (n : ℕ) → n ≡ getD l 24 0 → n ≡ 16
+    → ((b : Book) → Lies l b → length (b .history .kept) ≡ 16 → Lies m (withKept b (drop 1 (b .history .kept)))) → MakesRoom l m
+room-forgotten l m n is full forgets b lies =
+    let count : getD l 24 0 ≡ length (b .history .kept) = lies-count l b lies in
+    let all : length (b .history .kept) ≡ 16 = omega arith in
+    subst (λ (z : List (List Copy)). Lies m (withKept b z)) (room-full (b .history .kept) all) (forgets b lies all)
+
+-- fewer than 16 steps
+pub fewer : (l : List ℕ) (n : ℕ) → n ≡ getD l 24 0 → getD l 24 0 ≤ 16 → n ≢ 16 → getD l 24 0 ≤ 15
+fewer l n is most d = by-order n 16 (λ h. omega arith) (λ h. let e : n ≡ 16 = omega arith in impossible (d e))
+
+pub room-there : (l : List ℕ) → getD l 24 0 ≤ 15 → MakesRoom l l
+room-there l few b lies =
+    let count : getD l 24 0 ≡ length (b .history .kept) = lies-count l b lies in
+    subst (λ (z : List (List Copy)). Lies l (withKept b z)) (room-few (b .history .kept) (omega arith)) lies
+
 -- ---- a step remembered
-latest-full : (steps : List (List Copy)) (ks : List Copy) → length steps ≡ 16 → drop 1 steps ++ (ks ∷ []) ≡ latest (steps ++ (ks ∷ []))
-unfolding latest
-latest-full steps ks h =
-    let e : 1 ≡ length (steps ++ (ks ∷ [])) - 16 = sym (ap (λ (n : ℕ). n - 16) (length-append steps (ks ∷ [])) ∙ omega arith) in
-    sym (drop-append-le 1 steps (ks ∷ []) (omega arith)) ∙ ap (λ (n : ℕ). drop n (steps ++ (ks ∷ []))) e
+latest-is : (steps : List (List Copy)) (ks : List Copy) → lastFifteen steps ++ (ks ∷ []) ≡ latest (steps ++ (ks ∷ []))
+unfolding latest lastFifteen
+latest-is steps ks =
+    let e : length steps - 15 ≡ length (steps ++ (ks ∷ [])) - 16 = sym (ap (λ (n : ℕ). n - 16) (length-append steps (ks ∷ [])) ∙ omega arith) in
+    sym (drop-append-le (length steps - 15) steps (ks ∷ []) (omega arith)) ∙ ap (λ (n : ℕ). drop n (steps ++ (ks ∷ []))) e
 
-latest-few : (steps : List (List Copy)) (ks : List Copy) → length steps ≤ 15 → steps ++ (ks ∷ []) ≡ latest (steps ++ (ks ∷ []))
-unfolding latest
-latest-few steps ks h =
-    let e : 0 ≡ length (steps ++ (ks ∷ [])) - 16 = sym (ap (λ (n : ℕ). n - 16) (length-append steps (ks ∷ [])) ∙ omega arith) in
-    ap (λ (n : ℕ). drop n (steps ++ (ks ∷ []))) e
+remember-is : (old : History) (f : Copy → Copy) (k : Copy) (ks : List Copy) → record { kept = lastFifteen (old .kept) ++ (map f (k ∷ ks) ∷ []) } ≡ remember (map f (k ∷ ks)) old
+remember-is old f k ks = ap (λ (z : List (List Copy)). record { kept = z }) (latest-is (old .kept) (map f (k ∷ ks)))
 
-remember-is : (old : History) (f : Copy → Copy) (cs : List Copy) (first second : ℕ) → numbers cs ≡ named first second
-    → record { kept = latest (old .kept ++ (map f cs ∷ [])) } ≡ remember (map f cs) old
-remember-is old f [] first second e = apart cc
-remember-is old f (c ∷ cs) first second e = refl
+-- what pushing a step promises of bytes l before and m after
+abbrev pub Pushes : List ℕ → List ℕ → Changed → Type 0
+Pushes l m c =
+    (b : Book) → Lies l b → (cs : List Copy) → numbers cs ≡ segmentsOf c → Among (length (b .segments)) c
+    → Lies m (withHistory b (remember (map (oldOf (b .segments)) cs) (b .history)))
 
-module _ (first second : ℕ) where
-  -- what appending a step does to l
-  abbrev pub Appends : List ℕ → List ℕ → Type 0
-  Appends l m = (b : Book) → Lies l b → (cs : List Copy) → numbers cs ≡ named first second → first ≤ length (b .segments) → second ≤ length (b .segments)
-      → Lies m (withKept b (b .history .kept ++ (map (oldOf (b .segments)) cs ∷ [])))
+pub pushed-none : (l : List ℕ) (c : Changed) → c ≡ Nothing → Pushes l l c
+pushed-none l c is b lies cs are among = nothing cs (are ∙ ap segmentsOf is)
+  where
+    nothing : (cs : List Copy) → numbers cs ≡ [] → Lies l (withHistory b (remember (map (oldOf (b .segments)) cs) (b .history)))
+    nothing [] e = lies
+    nothing (k ∷ ks) e = apart cc
 
-  pub push-few : (l m : List ℕ) → getD l 24 0 ≤ 16 → getD l 24 0 ≢ 16 → Appends l m
-      → (b : Book) → Lies l b → (cs : List Copy) → numbers cs ≡ named first second → first ≤ length (b .segments) → second ≤ length (b .segments)
-      → Lies m (withHistory b (remember (map (oldOf (b .segments)) cs) (b .history)))
-  push-few l m most few appends b lies cs are there there2 =
-      let count : getD l 24 0 ≡ length (b .history .kept) = lies-count l b lies in
-      let ks : List Copy = map (oldOf (b .segments)) cs in
-      subst (λ (z : History). Lies m (withHistory b z)) (remember-is (b .history) (oldOf (b .segments)) cs first second are)
-      (subst (λ (z : List (List Copy)). Lies m (withKept b z)) (latest-few (b .history .kept) ks (omega arith)) (appends b lies cs are there there2))
+-- room was made, and these copies appended
+pushed : (b : Book) (m : List ℕ) (cs : List Copy) (s : ℕ) (ss : List ℕ) → numbers cs ≡ s ∷ ss
+    → Lies m (withKept b (lastFifteen (b .history .kept) ++ (map (oldOf (b .segments)) cs ∷ []))) → Lies m (withHistory b (remember (map (oldOf (b .segments)) cs) (b .history)))
+pushed b m [] s ss e lies = apart cc
+pushed b m (k ∷ ks) s ss e lies = subst (λ (z : History). Lies m (withHistory b z)) (remember-is (b .history) (oldOf (b .segments)) k ks) lies
 
-  pub push-full : (l m1 m : List ℕ) → getD l 24 0 ≡ 16
-      → ((b : Book) → Lies l b → length (b .history .kept) ≡ 16 → Lies m1 (withKept b (drop 1 (b .history .kept))))
-      → Appends m1 m
-      → (b : Book) → Lies l b → (cs : List Copy) → numbers cs ≡ named first second → first ≤ length (b .segments) → second ≤ length (b .segments)
-      → Lies m (withHistory b (remember (map (oldOf (b .segments)) cs) (b .history)))
-  push-full l m1 m full forgets appends b lies cs are there there2 =
-      let count : getD l 24 0 ≡ length (b .history .kept) = lies-count l b lies in
-      let all : length (b .history .kept) ≡ 16 = omega arith in
-      let ks : List Copy = map (oldOf (b .segments)) cs in
-      let b1 : Book = withKept b (drop 1 (b .history .kept)) in
-      subst (λ (z : History). Lies m (withHistory b z)) (remember-is (b .history) (oldOf (b .segments)) cs first second are)
-      (subst (λ (z : List (List Copy)). Lies m (withKept b z)) (latest-full (b .history .kept) ks all)
-      (appends b1 (forgets b lies all) cs are there there2))
+pub pushed-one : (l l1 m : List ℕ) (c : Changed) (s : ℕ) → c ≡ One s → MakesRoom l l1
+    → ((b : Book) → Lies l1 b → (cs : List Copy) → numbers cs ≡ s ∷ [] → s ≤ length (b .segments)
+    → Lies m (withKept b (b .history .kept ++ (map (oldOf (b .segments)) cs ∷ []))))
+    → Pushes l m c
+pushed-one l l1 m c s is room appends b lies cs are among =
+    let e : numbers cs ≡ s ∷ [] = are ∙ ap segmentsOf is in
+    pushed b m cs s [] e (appends (withKept b (lastFifteen (b .history .kept))) (room b lies) cs e (one-to among is))
+
+pub pushed-two : (l l1 m : List ℕ) (c : Changed) (s t : ℕ) → c ≡ Two s t → MakesRoom l l1
+    → ((b : Book) → Lies l1 b → (cs : List Copy) → numbers cs ≡ s ∷ t ∷ [] → s ≤ length (b .segments) → t ≤ length (b .segments)
+    → Lies m (withKept b (b .history .kept ++ (map (oldOf (b .segments)) cs ∷ []))))
+    → Pushes l m c
+pushed-two l l1 m c s t is room appends b lies cs are among =
+    let e : numbers cs ≡ s ∷ t ∷ [] = are ∙ ap segmentsOf is in
+    pushed b m cs s (t ∷ []) e (appends (withKept b (lastFifteen (b .history .kept))) (room b lies) cs e (first-to among is) (second-to among is))

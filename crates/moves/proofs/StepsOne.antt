@@ -7,7 +7,7 @@ use mathlib.Core.Option.{Option, none, some}
 use Prim.Native.Nat.{ℕ, zero, suc, _+_, _*_, _-_, _≤_, _<_}
 use native.Mathlib.Omega.{arith}
 use lib.ListN.{length, take, getD, getElem?, set, length-append}
-use lib.Seq.{length-take-le}
+use lib.Seq.{length-take-le, getD-set-other, set-getD}
 use lib.Dec.{eqb}
 use borrow.Author.Tests.{eq-eqb, ne-eqb, eqb-true}
 use Rattle.laws.proofs.Tests.{by, by-order, impossible, apart}
@@ -19,11 +19,14 @@ use Rattle.steps.specs.Book.{Copy, Book, at}
 use Rattle.layout.specs.Layout.{segmentOf, heldOf, orNone}
 use Rattle.steps.specs.Calls.{older, numbers, oldOf, orElse}
 use Rattle.layout.specs.Lies.{Lies}
-use Rattle.moves.specs.Named.{named}
 use Rattle.moves.specs.Undo.{withKept}
 use Rattle.moves.proofs.StepsStands.{Stands, upd, upd-other, upd-at, stands-set, stands-clear, stands-over, stands-same}
-use Rattle.moves.proofs.StepsIndex.{slot-none}
+use Rattle.moves.proofs.StepsIndex.{slot-none, index-step}
 use Rattle.moves.proofs.StepsLies.{bytesIn, partsIn, parts-segment, parts-past, lies-stands, lies-count, one-step}
+
+-- the segments that the two bytes of a step name: the second is 0 if there is none
+abbrev named : ℕ → ℕ → List ℕ
+named first second = first ∷ cond (eqb second 0) [] (second ∷ [])
 
 -- block 0 with another count, and other segments of step r
 abbrev pub noted : List ℕ → ℕ → ℕ → ℕ → ℕ → List ℕ
@@ -180,19 +183,37 @@ pop-step-done l m1 m n r count er e1 e2 b lies one =
     subst (λ (z : List ℕ). Lies z (withKept b (older (b .history .kept)))) (sym (e2 ∙ ap (putBlock (18 + 2 * r) (holding none)) e1))
     (popped l b r (omega arith) lies one)
 
-module _ (l : List ℕ) (n first second : ℕ) (count : n ≡ getD l 24 0) (few : getD l 24 0 ≤ 15) (one : 1 ≤ first) (eight : first ≤ 8) (eight2 : second ≤ 8) where
-  pub append-one-done : (m : List ℕ) → m ≡ putBlock (17 + 2 * n) (blockOf first (noted l n (n + 1) first second)) (noted l n (n + 1) first second) → second ≡ 0
-      → (b : Book) → Lies l b → (cs : List Copy) → numbers cs ≡ named first second → first ≤ length (b .segments) → second ≤ length (b .segments)
-      → Lies m (withKept b (b .history .kept ++ (map (oldOf (b .segments)) cs ∷ [])))
-  append-one-done m e z b lies cs are there there2 =
-      subst (λ (q : List ℕ). Lies q (withKept b (b .history .kept ++ (map (oldOf (b .segments)) cs ∷ [])))) (sym e)
-      (appended-one l b n first second count (omega arith) lies cs are one eight eight2 there there2 z)
+module _ (l : List ℕ) (n : ℕ) (count : n ≡ getD l 24 0) (few : getD l 24 0 ≤ 15) where
+  -- a step of one segment: the byte of the second is 0 already
+  noted-one : (b : Book) → Lies l b → (s : ℕ) → noted l n (n + 1) s 0 ≡ set (set l 24 (n + 1)) (32 + 2 * n) s
+  noted-one b lies s =
+      let m : List ℕ = set (set l 24 (n + 1)) (32 + 2 * n) s in
+      let here : n ≡ length (b .history .kept) = count ∙ lies-count l b lies in
+      let d1 : 33 + 2 * n ≢ 32 + 2 * n = λ e. omega arith in
+      let d2 : 33 + 2 * n ≢ 24 = λ e. omega arith in
+      let e : 33 + 2 * n ≡ 32 + (2 * n + 1) = omega arith in
+      let z : getD m (33 + 2 * n) 0 ≡ 0 =
+      getD-set-other (set l 24 (n + 1)) (32 + 2 * n) (33 + 2 * n) s 0 d1 ∙ getD-set-other l 24 (33 + 2 * n) (n + 1) 0 d2
+      ∙ lies-stands l b lies .bytes (33 + 2 * n) (omega arith) ∙ ap (bytesIn b) e ∙ index-step b (lies .four) (2 * n + 1)
+      ∙ ap segmentOf (slot-none (b .history .kept) (2 * n + 1) (omega (arith, here))) in
+      ap (set m (33 + 2 * n)) (sym z) ∙ set-getD m (33 + 2 * n) 0
 
-  pub append-two-done : (m1 m : List ℕ) → m1 ≡ putBlock (17 + 2 * n) (blockOf first (noted l n (n + 1) first second)) (noted l n (n + 1) first second)
-      → m ≡ putBlock (18 + 2 * n) (blockOf second m1) m1 → second ≢ 0
-      → (b : Book) → Lies l b → (cs : List Copy) → numbers cs ≡ named first second → first ≤ length (b .segments) → second ≤ length (b .segments)
+  pub append-one-done : (m : List ℕ) (s : ℕ) → 1 ≤ s → s ≤ 8
+      → m ≡ putBlock (17 + 2 * n) (blockOf s (set (set l 24 (n + 1)) (32 + 2 * n) s)) (set (set l 24 (n + 1)) (32 + 2 * n) s)
+      → (b : Book) → Lies l b → (cs : List Copy) → numbers cs ≡ s ∷ [] → s ≤ length (b .segments)
       → Lies m (withKept b (b .history .kept ++ (map (oldOf (b .segments)) cs ∷ [])))
-  append-two-done m1 m e1 e2 z b lies cs are there there2 =
+  append-one-done m s one eight e b lies cs are there =
       subst (λ (q : List ℕ). Lies q (withKept b (b .history .kept ++ (map (oldOf (b .segments)) cs ∷ []))))
-      (sym (e2 ∙ ap (λ (q : List ℕ). putBlock (18 + 2 * n) (blockOf second q) q) e1))
-      (appended-two l b n first second count (omega arith) lies cs are one eight eight2 there there2 z)
+      (ap (λ (z : List ℕ). putBlock (17 + 2 * n) (blockOf s z) z) (noted-one b lies s) ∙ sym e)
+      (appended-one l b n s 0 count (omega arith) lies cs are one eight (omega arith) there (omega arith) refl)
+
+  pub append-two-done : (m1 m : List ℕ) (s t : ℕ) → 1 ≤ s → s ≤ 8 → 1 ≤ t → t ≤ 8
+      → m1 ≡ putBlock (17 + 2 * n) (blockOf s (noted l n (n + 1) s t)) (noted l n (n + 1) s t) → m ≡ putBlock (18 + 2 * n) (blockOf t m1) m1
+      → (b : Book) → Lies l b → (cs : List Copy) → numbers cs ≡ s ∷ t ∷ [] → s ≤ length (b .segments) → t ≤ length (b .segments)
+      → Lies m (withKept b (b .history .kept ++ (map (oldOf (b .segments)) cs ∷ [])))
+  append-two-done m1 m s t one eight one2 eight2 e1 e2 b lies cs are there there2 =
+      let some-t : t ≢ 0 = λ z. omega arith in
+      let two : s ∷ t ∷ [] ≡ named s t = ap (λ (z : Bool). s ∷ cond z [] (t ∷ [])) (sym (ne-eqb t 0 some-t)) in
+      subst (λ (q : List ℕ). Lies q (withKept b (b .history .kept ++ (map (oldOf (b .segments)) cs ∷ []))))
+      (sym (e2 ∙ ap (λ (q : List ℕ). putBlock (18 + 2 * n) (blockOf t q) q) e1))
+      (appended-two l b n s t count (omega arith) lies cs (are ∙ two) one eight eight2 there there2 some-t)

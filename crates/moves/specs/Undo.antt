@@ -1,5 +1,7 @@
--- Books with other segments or steps.
+-- Serves the code: books with other segments or steps.
+use Prim.Native.Nat.{_-_}
 use mathlib.Core.List.{List}
+use lib.ListN.{length, drop}
 use Rattle.codes.specs.Block.{Content}
 use Rattle.steps.specs.Book.{Copy, History, Book}
 
@@ -11,3 +13,7 @@ withHistory b h = record { issue = b .issue; segments = b .segments; drafts = b 
 
 abbrev pub withKept : Book → List (List Copy) → Book
 withKept b steps = withHistory b (record { kept = steps })
+
+-- the steps with room for one more: the newest fifteen
+unfoldable pub lastFifteen : List (List Copy) → List (List Copy)
+lastFifteen steps = drop (length steps - 15) steps

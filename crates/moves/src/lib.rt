@@ -14,8 +14,10 @@ ghost use Rattle.steps.specs.Calls.{withDrafts, staled, numbers, stepsMost, old
 ghost use Rattle.layout.specs.Layout.{bytesOf, partOf, heldIn};
 ghost use Rattle.layout.specs.Sound.{FineDraft};
 ghost use Rattle.layout.specs.Lies.{Lies};
-ghost use Rattle.moves.specs.Named.{named, marked};
-ghost use Rattle.moves.specs.Undo.{withSegments, withHistory, withKept};
+ghost use Rattle.layout.specs.Rule.{segmentsOf};
+ghost use Rattle.moves.specs.Named.{Among, TwoTaken, marked};
+ghost use Rattle.moves.specs.Undo.{withSegments, withHistory, withKept, lastFifteen};
+use layout::Changed;
 
 // Stores the check of block 0.
 pub fn seal_index(book: &mut [u8])
@@ -61,29 +63,46 @@ pub fn take_copy(book: &mut [u8], d: usize, n: usize, s: usize)
     book[at] = s as u8;
 }
 
-// Marks draft d stale if it has taken one of two segments.
-fn mark_draft(book: &mut [u8], d: usize, first: usize, second: usize)
+// Marks draft d stale if it has taken segment s.
+fn mark_draft(book: &mut [u8], d: usize, s: usize)
     requires { ⌜ (length (now book) ≡ bookLength) × (1 ≤ d) × (d ≤ 4) ⌝ }
-    ensures { λ _. ⌜ now (book .exit) ≡ marked (now (book .entry)) d first second ⌝ }
+    ensures { λ _. ⌜ now (book .exit) ≡ marked (now (book .entry)) d s ⌝ }
 {
     let x = blocks::size(book[5 + 4 * d]);
     let y = blocks::size(book[6 + 4 * d]);
-    let met = ((first == x) | (first == y)) | ((0 < second) & ((second == x) | (second == y)));
+    let met = (s == x) | (s == y);
     if met {
         let at = 7 + 4 * d;
         book[at] = 1;
     }
 }
 
-// Marks the drafts stale that have taken `first`, or `second`, which is 0 if there is none.
-pub fn mark_stale(book: &mut [u8], first: usize, second: usize)
-    requires { ⌜ (length (now book) ≡ bookLength) × (1 ≤ first) ⌝ }
-    ensures { λ _. ⌜ ((b : Book) → Lies (now (book .entry)) b → (issue n : ℕ) → All (FineDraft issue n) (b .drafts) → (cs : List Copy) → numbers cs ≡ named first second → Lies (now (book .exit)) (withDrafts b (map (staled cs) (b .drafts)))) ⌝ }
+// Marks the drafts stale that have taken segment s.
+fn mark_drafts(book: &mut [u8], s: usize)
+    requires { ⌜ (length (now book) ≡ bookLength) × (1 ≤ s) ⌝ }
+    ensures { λ _. ⌜ ((b : Book) → Lies (now (book .entry)) b → All TwoTaken (b .drafts) → (k : Copy) → k .segment ≡ s → Lies (now (book .exit)) (withDrafts b (map (staled (k ∷ [])) (b .drafts)))) ⌝ }
 {
-    mark_draft(book, 1, first, second);
-    mark_draft(book, 2, first, second);
-    mark_draft(book, 3, first, second);
-    mark_draft(book, 4, first, second);
+    mark_draft(book, 1, s);
+    mark_draft(book, 2, s);
+    mark_draft(book, 3, s);
+    mark_draft(book, 4, s);
+}
+
+// Marks the drafts stale that have taken one of some segments.
+pub fn mark_stale(book: &mut [u8], segments: Changed)
+    requires { ⌜ (length (now book) ≡ bookLength) × Among 8 segments ⌝ }
+    ensures { λ _. ⌜ ((b : Book) → Lies (now (book .entry)) b → (issue n : ℕ) → All (FineDraft issue n) (b .drafts) → (cs : List Copy) → numbers cs ≡ segmentsOf segments → Lies (now (book .exit)) (withDrafts b (map (staled cs) (b .drafts)))) ⌝ }
+{
+    match segments {
+        Changed::Nothing => {}
+        Changed::One(s) => {
+            mark_drafts(book, s);
+        }
+        Changed::Two(s, t) => {
+            mark_drafts(book, s);
+            mark_drafts(book, t);
+        }
+    }
 }
 
 // Makes segment s hold what block `from` of a draft or a step holds.
@@ -108,20 +127,28 @@ pub fn pop_step(book: &mut [u8])
     blocks::clear_block(book, 18 + 2 * r);
 }
 
-// Appends a step of one or two segments, second 0 if none, with what they hold.
-fn append_step(book: &mut [u8], first: usize, second: usize)
-    requires { ⌜ (length (now book) ≡ bookLength) × (getD (now book) 24 0 ≤ 15) × (1 ≤ first) × (first ≤ 8) × (second ≤ 8) ⌝ }
-    ensures { λ _. ⌜ ((b : Book) → Lies (now (book .entry)) b → (cs : List Copy) → numbers cs ≡ named first second → first ≤ length (b .segments) → second ≤ length (b .segments) → Lies (now (book .exit)) (withKept b (b .history .kept ++ (map (oldOf (b .segments)) cs ∷ [])))) ⌝ }
+// Appends a step of one segment, with what it holds.
+fn append_one(book: &mut [u8], s: usize)
+    requires { ⌜ (length (now book) ≡ bookLength) × (getD (now book) 24 0 ≤ 15) × (1 ≤ s) × (s ≤ 8) ⌝ }
+    ensures { λ _. ⌜ ((b : Book) → Lies (now (book .entry)) b → (cs : List Copy) → numbers cs ≡ s ∷ [] → s ≤ length (b .segments) → Lies (now (book .exit)) (withKept b (b .history .kept ++ (map (oldOf (b .segments)) cs ∷ [])))) ⌝ }
 {
     let n = blocks::size(book[24]);
     book[24] = (n + 1) as u8;
-    book[32 + 2 * n] = first as u8;
-    book[33 + 2 * n] = second as u8;
-    blocks::copy_block(book, first, 17 + 2 * n);
-    if second == 0 {
-        return;
-    }
-    blocks::copy_block(book, second, 18 + 2 * n);
+    book[32 + 2 * n] = s as u8;
+    blocks::copy_block(book, s, 17 + 2 * n);
+}
+
+// Appends a step of two segments, with what they hold.
+fn append_two(book: &mut [u8], s: usize, t: usize)
+    requires { ⌜ (length (now book) ≡ bookLength) × (getD (now book) 24 0 ≤ 15) × (1 ≤ s) × (s ≤ 8) × (1 ≤ t) × (t ≤ 8) ⌝ }
+    ensures { λ _. ⌜ ((b : Book) → Lies (now (book .entry)) b → (cs : List Copy) → numbers cs ≡ s ∷ t ∷ [] → s ≤ length (b .segments) → t ≤ length (b .segments) → Lies (now (book .exit)) (withKept b (b .history .kept ++ (map (oldOf (b .segments)) cs ∷ [])))) ⌝ }
+{
+    let n = blocks::size(book[24]);
+    book[24] = (n + 1) as u8;
+    book[32 + 2 * n] = s as u8;
+    book[33 + 2 * n] = t as u8;
+    blocks::copy_block(book, s, 17 + 2 * n);
+    blocks::copy_block(book, t, 18 + 2 * n);
 }
 
 // Forgets the oldest of 16 steps: the others move down.
@@ -144,16 +171,32 @@ fn forget_oldest(book: &mut [u8])
     blocks::clear_block(book, 48);
 }
 
-// Makes what one or two segments hold, second 0 if none, the newest step.
-pub fn push_step(book: &mut [u8], first: usize, second: usize)
-    requires { ⌜ (length (now book) ≡ bookLength) × (getD (now book) 24 0 ≤ stepsMost) × (1 ≤ first) × (first ≤ 8) × (second ≤ 8) ⌝ }
-    ensures { λ _. ⌜ ((b : Book) → Lies (now (book .entry)) b → (cs : List Copy) → numbers cs ≡ named first second → first ≤ length (b .segments) → second ≤ length (b .segments) → Lies (now (book .exit)) (withHistory b (remember (map (oldOf (b .segments)) cs) (b .history)))) ⌝ }
+// Makes room for a step: the oldest of 16 is forgotten.
+fn make_room(book: &mut [u8])
+    requires { ⌜ (length (now book) ≡ bookLength) × (getD (now book) 24 0 ≤ stepsMost) ⌝ }
+    ensures lies { λ _. ⌜ ((b : Book) → Lies (now (book .entry)) b → Lies (now (book .exit)) (withKept b (lastFifteen (b .history .kept)))) ⌝ }
+    ensures count { λ _. ⌜ getD (now (book .exit)) 24 0 ≤ 15 ⌝ }
 {
     let n = blocks::size(book[24]);
     if n == 16 {
         forget_oldest(book);
-        append_step(book, first, second);
-        return;
     }
-    append_step(book, first, second);
+}
+
+// Makes what some segments hold the newest step; where there are none, nothing is done.
+pub fn push_step(book: &mut [u8], segments: Changed)
+    requires { ⌜ (length (now book) ≡ bookLength) × (getD (now book) 24 0 ≤ stepsMost) × Among 8 segments ⌝ }
+    ensures { λ _. ⌜ ((b : Book) → Lies (now (book .entry)) b → (cs : List Copy) → numbers cs ≡ segmentsOf segments → Among (length (b .segments)) segments → Lies (now (book .exit)) (withHistory b (remember (map (oldOf (b .segments)) cs) (b .history)))) ⌝ }
+{
+    match segments {
+        Changed::Nothing => {}
+        Changed::One(s) => {
+            make_room(book);
+            append_one(book, s);
+        }
+        Changed::Two(s, t) => {
+            make_room(book);
+            append_two(book, s, t);
+        }
+    }
 }

@@ -1,32 +1,32 @@
-use mathlib.Core.Path.{sym, _∙_}
 use borrow.Author.Needs.{needs}
-use Rattle.moves.proofs.StepsForgot.{push-few, push-full}
+use Rattle.moves.proofs.Segments.{one-from, one-to, first-from, first-to, second-from, second-to}
+use Rattle.moves.proofs.StepsForgot.{pushed-none, pushed-one, pushed-two}
 use Rattle.moves.proofs.push_step.Statement.{statement}
 use Rattle.moves.proofs.push_step.Tie as tie
 
-returns : tie.Need-returns
-returns c =
-    let s = c .before .before .before .before .before .before .before .before .before .before .before .before in
-    let n = c .before .before .before .before .before .before .before .before .before .size .ensures .0 in
-    push-full (s .args .first) (s .args .second) (s .args .book .now) _ _ (sym n ∙ c .before .before .before .before .before .before .before .before .if1 .taken)
-    (c .before .before .before .before .before .before .forget-oldest .ensures .0) (c .before .before .append-step .ensures)
-
 returns-2 : tie.Need-returns-2
 returns-2 c =
-    let s = c .before .before .before .before .before .before .before .before in
-    let n = c .before .before .before .before .before .size .ensures .0 in
-    push-few (s .args .first) (s .args .second) (s .args .book .now) _ (s .pre .1) (λ e. c .before .before .before .before .if1 .left (n ∙ e)) (c .before .before .append-step2 .ensures)
+    let s = c .before .before .before .before .before .before .before .before .before .before .before .before .args in
+    pushed-one (s .book .now) _ _ (s .segments) _ (c .before .before .before .before .before .before .before .before .before .segments .given .1) (c .before .before .before .before .before .before .make-room .ensures .0) (c .before .before .append-one .ensures)
+
+returns-3 : tie.Need-returns-3
+returns-3 c =
+    let s = c .before .before .before .before .before .before .before .before .before .before .before .before .args in
+    pushed-two (s .book .now) _ _ (s .segments) _ _ (c .before .before .before .before .before .before .before .before .before .segments2 .given .1) (c .before .before .before .before .before .before .make-room2 .ensures .0) (c .before .before .append-two .ensures)
 
 pub push-step-spec : {M : Type 1} → statement M
 push-step-spec =
     tie.close
     (tie.spec
     (λ c. search needs)
-    (λ c κs. search needs)
-    (λ c κs. search needs)
-    (λ c κs. search needs)
     (λ c. search needs)
-    returns
     (λ c κs. search needs)
+    (λ c κs. (search needs, search needs, search (one-from, needs), search (one-to, needs)))
     (λ c. search needs)
-    returns-2)
+    (λ c κs. search needs)
+    (λ c κs. (search needs, search needs, search (first-from, needs), search (first-to, needs), search (second-from, needs), search (second-to, needs)))
+    (λ c. search (pushed-none, needs))
+    (λ c. search needs)
+    returns-2
+    (λ c. search needs)
+    returns-3)
