@@ -6,14 +6,16 @@ use mathlib.Core.List.{List, [], _∷_}
 use mathlib.Core.Bool.{Bool, true, false, cond}
 use lib.ListN.{length, drop, length-drop}
 use borrow.Author.Tests.{eqb-true}
-use Rattle.laws.proofs.Tests.{by, apart, and-left}
+use Rattle.laws.proofs.Tests.{by, impossible, apart, and-left}
 use Rattle.refusal.specs.Numbers.{wrongBlock, noSegment, wrongStorm}
 use Rattle.refusal.specs.Answer.{Answer, ok, no, refusalFor}
 use Rattle.lines.specs.Bytes.{begins, exactly}
 use Rattle.lines.specs.Lines.{Line, blank, opens}
-use Rattle.lines.specs.Spans.{spanAt, part}
+use Rattle.lines.specs.Spans.{spanAt, paperLined, part}
 use Rattle.lines.specs.declared.Span.{Span}
-use Rattle.lines.proofs.Ends.{endOf, lineAt, lines-step, lines-last}
+use Rattle.lines.specs.declared.Lined.{Lined}
+use Rattle.lines.specs.declared.Lined.the-variants as lined
+use Rattle.lines.proofs.Ends.{endOf, lineAt, lines-step, lines-last, found-none, found-here, found-end}
 use Rattle.lines.proofs.Strings.{exactly-is}
 use Rattle.heading.specs.Storm as storm
 use Rattle.heading.specs.Storm.{isOffice, stormForm, namesStorm, stormOf}
@@ -22,7 +24,7 @@ use Rattle.heading.specs.declared.Storm.{Storm}
 use Rattle.heading.specs.declared.Storm.the-variants as named
 use Rattle.heading.specs.declared.Named.{Named}
 use Rattle.heading.specs.declared.Named.the-variants as naming
-use Rattle.bulletin.specs.Search.{fromFirst, upToFirst, afterFirst, closes, officeOrClose, linesOn, foundLines, Inside}
+use Rattle.bulletin.specs.Search.{fromFirst, upToFirst, afterFirst, closes, officeOrClose, linesOn, foundLines, Inside, nextIn}
 use Rattle.bulletin.specs.Mnd.{stormSaid, officeStorm}
 use Rattle.bulletin.specs.Segments.{fromLine3}
 use Rattle.bulletin.specs.Front.{paperStormed, paperStart}
@@ -30,15 +32,15 @@ use Rattle.bulletin.specs.declared.Found.{Found}
 use Rattle.bulletin.specs.declared.Found.the-variants as found
 use Rattle.bulletin.specs.declared.Stormed.the-variants as stormed
 use Rattle.bulletin.specs.declared.Start.the-variants as start
-use Rattle.bulletin.proofs.Seeking.{end-of, next-of, body-of}
+use Rattle.bulletin.proofs.Seeking.{next-is, body-of}
 
 -- ---- the lines after the first that is sought
 module _ (p : List ℕ → Bool) (s : List ℕ) (from : ℕ) (f : Found) (ef : foundLines s f ≡ fromFirst p (linesOn s from)) where
   pub after-none : f ≡ found.Nothing → linesOn s (length s) ≡ afterFirst p (linesOn s from)
   after-none q = lines-last s (length s) (omega arith) ∙ rw (← ef, q)
 
-  pub after-at : Inside s from f → (a : ℕ) → f ≡ found.At a → (l : Span) → l ≡ spanAt s a → linesOn s (l .next) ≡ afterFirst p (linesOn s from)
-  after-at i a q l e = rw (next-of s a l e, ← ef, q, lines-step s a ((rw q at i) .1))
+  pub after-at : Inside s from f → (a : ℕ) → f ≡ found.At a → (n : ℕ) → n ≡ nextIn a (spanAt s a) → linesOn s n ≡ afterFirst p (linesOn s from)
+  after-at i a q n e = rw (e, next-is s a, ← ef, q, lines-step s a ((rw q at i) .1))
 
 -- ---- the office line is the first line that is one or closes the block, if it does not close it
 firstStorm : List Line → Answer Storm
@@ -65,9 +67,13 @@ module _ (s : List ℕ) (from : ℕ) (f : Found) (ef : foundLines s f ≡ fromFi
   unfolding firstStorm
   storm-none q = sym (office-is (linesOn s from) ∙ rw (← ef, q))
 
-  module _ (i : Inside s from f) (a : ℕ) (q : f ≡ found.At a) (l : Span) (el : l ≡ spanAt s a) (line : List ℕ) (en : line ≡ part s a (l .end)) (t : Bool) (et : t ≡ closes line) where
+  -- a line that was found is there
+  pub storm-gone : Inside s from f → (a : ℕ) → f ≡ found.At a → (r : Lined) → paperLined r ≡ spanAt s a → r ≡ lined.Nothing → ⊥
+  storm-gone i a q r e z = omega (arith, (rw q at i) .1, found-none s a r e z)
+
+  module _ (i : Inside s from f) (a : ℕ) (q : f ≡ found.At a) (r : Lined) (er : paperLined r ≡ spanAt s a) (l : Span) (el : r ≡ lined.Line l) (line : List ℕ) (en : line ≡ part s a (l .end)) (t : Bool) (et : t ≡ closes line) where
     body-is : lineAt s a .body ≡ line
-    body-is = sym (body-of s a l el line en)
+    body-is = sym (body-of s a r er l el line en)
 
     first-is : officeStorm (fromFirst isOffice (upToFirst closes (linesOn s from))) ≡ cond t (ok named.None) (stormSaid (lineAt s a) (stormOf line))
     unfolding firstStorm
@@ -90,7 +96,7 @@ module _ (s : List ℕ) (from : ℕ) (f : Found) (ef : foundLines s f ≡ fromFi
       module _ (y : m ≡ naming.Wrong) where
         end-is : l .end ≡ a + length line
         unfolding endOf
-        end-is = end-of s a l el ∙ ap (λ (x : List ℕ). a + length x) body-is
+        end-is = found-end s a r er l el ∙ ap (λ (x : List ℕ). a + length x) body-is
 
         long : 9 ≤ length line
         long = storm-long line (sym em ∙ ap paperNamed y)
@@ -105,12 +111,12 @@ module _ (s : List ℕ) (from : ℕ) (f : Found) (ef : foundLines s f ≡ fromFi
 
 -- ---- line 3
 module _ (s : List ℕ) (third : ℕ) (past : List Line) where
-  pub place-none : length s ≤ third → paperStart s (start.Refused (refusalFor noSegment (length s))) ≡ fromLine3 past (length s) (linesOn s third)
-  place-none h = rw (lines-last s third h)
+  pub place-none : (f : Lined) → paperLined f ≡ spanAt s third → f ≡ lined.Nothing → paperStart s (start.Refused (refusalFor noSegment (length s))) ≡ fromLine3 past (length s) (linesOn s third)
+  place-none f e q = rw (lines-last s third (found-none s third f e q))
 
-  module _ (h : third < length s) (l : Span) (el : l ≡ spanAt s third) (line : List ℕ) (en : line ≡ part s third (l .end)) (t : Bool) (et : t ≡ blank line) where
+  module _ (f : Lined) (ef : paperLined f ≡ spanAt s third) (l : Span) (el : f ≡ lined.Line l) (line : List ℕ) (en : line ≡ part s third (l .end)) (t : Bool) (et : t ≡ blank line) where
     line3 : fromLine3 past (length s) (linesOn s third) ≡ cond t (ok past) (cond (opens line) (ok (linesOn s third)) (no 6 third))
-    line3 = rw (lines-step s third h, ← body-of s third l el line en, ← et)
+    line3 = rw (lines-step s third (found-here s third f ef l el), ← body-of s third f ef l el line en, ← et)
 
     pub place-blank : t ≡ true → (r : ℕ) → linesOn s r ≡ past → paperStart s (start.From r) ≡ fromLine3 past (length s) (linesOn s third)
     place-blank y r q = ap ok q ∙ sym (line3 ∙ rw y)

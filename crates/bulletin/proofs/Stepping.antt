@@ -13,13 +13,12 @@ use Rattle.refusal.specs.Answer.{Answer, ok, no, refusalFor, andThen}
 use Rattle.refusal.specs.declared.Refusal.{Refusal}
 use Rattle.lines.specs.Lines.{Line, isEnd, opens}
 use Rattle.lines.specs.Spans.{spanAt}
-use Rattle.lines.specs.declared.Span.{Span}
 use Rattle.lines.proofs.Ends.{nextOf, lineAt, lines-step}
 use Rattle.codes.specs.Block.{contentAt, readBlock, lastOf}
 use Rattle.reading.specs.Held.{Good, listOf, paperContent}
 use Rattle.reading.specs.declared.Content.{Content}
 use Rattle.reading.specs.declared.Purge.the-variants as purge
-use Rattle.bulletin.specs.Search.{fromFirst, linesOn, foundLines, Inside}
+use Rattle.bulletin.specs.Search.{fromFirst, linesOn, foundLines, Inside, nextIn}
 use Rattle.bulletin.specs.Segments as segments
 use Rattle.bulletin.specs.Segments.{segmentsFrom, opened, ended, pastBlock}
 use Rattle.bulletin.specs.Seen.{seenOf, seenFrom, joined, then, Stepped, paperListed}
@@ -30,7 +29,7 @@ use Rattle.bulletin.specs.declared.Segment.{Segment}
 use Rattle.bulletin.specs.declared.Next.{Next}
 use Rattle.bulletin.specs.declared.Next.the-variants as next
 use Rattle.bulletin.specs.declared.Ending.the-variants as ending
-use Rattle.bulletin.proofs.Seeking.{next-of}
+use Rattle.bulletin.proofs.Seeking.{next-is}
 use Rattle.bulletin.proofs.Keeping.{kept-length, kept-more}
 
 module _ (s : List ℕ) (issue left from : ℕ) (f : Found) (ef : foundLines s f ≡ fromFirst opens (linesOn s from)) where
@@ -82,27 +81,30 @@ module _ (s : List ℕ) (issue left from : ℕ) (f : Found) (ef : foundLines s f
         pub step-no-end : f2 ≡ found.Nothing → (r : Next) → r ≡ next.Refused (refusalFor noEnd a) → Stepped s issue left from r
         step-no-end z r e = record { same = ended-is ∙ rw (z, e); room = λ g h. let w : next.Refused (refusalFor noEnd a) ≡ next.One g = sym e ∙ h in apart cc }
 
-        module _ (g : Good (c .places)) (i2 : Inside s a f2) (b : ℕ) (z : f2 ≡ found.At b) (d l : Span) (el : l ≡ spanAt s b) (ed : d ≡ spanAt s (c .last)) (last : c .last ≡ lastOf (readBlock s a)) where
-          block-is : d .next ≡ pastBlock s a
+        module _ (g : Good (c .places)) (i2 : Inside s a f2) (b : ℕ) (z : f2 ≡ found.At b) (d l : ℕ) (el : l ≡ nextIn b (spanAt s b)) (ed : d ≡ nextIn (c .last) (spanAt s (c .last))) (last : c .last ≡ lastOf (readBlock s a)) where
+          past-is : l ≡ nextOf s b
+          past-is = el ∙ next-is s b
+
+          block-is : d ≡ pastBlock s a
           block-is = rw (ed, last)
 
           one : Segment
-          one = record { start = a; block = d .next; past = l .next; purge = t; count = c .places .count }
+          one = record { start = a; block = d; past = l; purge = t; count = c .places .count }
 
           joined-is : (x : Answer (List segments.Segment)) → seenOf (andThen x (λ ss. ok (record { start = a; block = pastBlock s a; past = nextOf s b; content = record { purge = t; places = listOf (c .places) } } ∷ ss))) ≡ joined (one ∷ []) (seenOf x)
           unfolding andThen one
           joined-is (ok ss) =
               let n : length (listOf (c .places)) ≡ c .places .count = length-take-le (c .places .count) (c .places .held) (omega (arith, g .few, g .long)) in
-              rw (n, block-is, next-of s b l el)
+              rw (n, block-is, past-is)
           joined-is (no number place) = refl
 
-          pub step-one : Stepped s issue left from (next.One (record { start = a; block = d .next; past = l .next; purge = t; count = c .places .count }))
+          pub step-one : Stepped s issue left from (next.One (record { start = a; block = d; past = l; purge = t; count = c .places .count }))
           unfolding one
           step-one =
               record {
                 same =
                     ended-is ∙ rw (z, lines-step s b ((rw z at i2) .1)) (joined-is (segmentsFrom (left - 1) s issue (linesOn s (nextOf s b)))
-                    ∙ ap (λ (k : ℕ). joined (one ∷ []) (seenFrom (left - 1) s issue k)) (sym (next-of s b l el)));
+                    ∙ ap (λ (k : ℕ). joined (one ∷ []) (seenFrom (left - 1) s issue k)) (sym past-is));
                 room = λ g h. omega arith;
               }
 

@@ -15,9 +15,11 @@ use Rattle.refusal.specs.declared.Verdict.the-variants as verdict
 use Rattle.lines.specs.Bytes.{exactly}
 use Rattle.lines.specs.Lines.{linesOf}
 use Rattle.lines.specs.Check.{checkText}
-use Rattle.lines.specs.Spans.{spanAt, part}
+use Rattle.lines.specs.Spans.{spanAt, paperLined, part}
 use Rattle.lines.specs.declared.Span.{Span}
-use Rattle.lines.proofs.Ends.{nextOf, next-last, next-within, lines-step, lines-last}
+use Rattle.lines.specs.declared.Lined.{Lined}
+use Rattle.lines.specs.declared.Lined.the-variants as lined
+use Rattle.lines.proofs.Ends.{nextOf, next-last, next-within, lines-step, lines-last, found-none, found-here, found-next}
 use Rattle.calendar.specs.Calendar.{isIssueMonth, minuteOf}
 use Rattle.calendar.specs.Paper.{paperMoment}
 use Rattle.calendar.specs.declared.Moment.{Moment}
@@ -33,7 +35,7 @@ use Rattle.bulletin.specs.Bulletin.{isLength, line1, line2}
 use Rattle.bulletin.specs.Front.{checked, topOf, paperTopped}
 use Rattle.bulletin.specs.declared.Topped.{Topped}
 use Rattle.bulletin.specs.declared.Topped.the-variants as topped
-use Rattle.bulletin.proofs.Seeking.{next-of, body-of}
+use Rattle.bulletin.proofs.Seeking.{body-of}
 
 -- ---- 1, 5, 2
 module _ (s : List ℕ) (year month : ℕ) where
@@ -50,32 +52,28 @@ module _ (s : List ℕ) (year month : ℕ) where
     unfolding checked isLength andThen
     check-text q r e = rw (y, ← et, q) e
 
--- ---- the lines one by one; past the last there is none, and its bytes are none
+-- ---- the lines one by one
 later-is : (s : List ℕ) (at : ℕ) → later (linesOn s at) ≡ linesOn s (nextOf s at)
 later-is s at =
     by-order at (length s) (λ h. rw (lines-step s at h))
     (λ h. ap later (lines-last s at h) ∙ sym (ap (linesOn s) (next-last s at h) ∙ lines-last s at h))
 
-no-bytes : (s : List ℕ) (at e : ℕ) → length s ≤ at → part s at e ≡ []
-no-bytes s at e h = rw (drop-of-length-le s h) (take-nil (e - at))
+module _ (s : List ℕ) (at : ℕ) (f : Lined) (e : paperLined f ≡ spanAt s at) (l : Span) (z : f ≡ lined.Line l) (line : List ℕ) (q : line ≡ part s at (l .end)) where
+  line1-is : line1 (linesOn s at) ≡ rule.headed (headingOf line)
+  line1-is = rw (lines-step s at (found-here s at f e l z), ← body-of s at f e l z line q)
 
-line1-is : (s : List ℕ) (l : Span) → l ≡ spanAt s 0 → (line : List ℕ) → line ≡ part s 0 (l .end) → line1 (linesOf s) ≡ rule.headed (headingOf line)
-unfolding headingOf isHeading exactly
-line1-is s l e line q =
-    by-order 0 (length s) (λ h. rw (lines-step s 0 h, ← body-of s 0 l e line q))
-    (λ h. ap line1 (lines-last s 0 h) ∙ sym (rw (q, no-bytes s 0 (l .end) h)))
-
-module _ (s : List ℕ) (at : ℕ) (low : at ≤ length s) (l : Span) (e : l ≡ spanAt s at) (line : List ℕ) (q : line ≡ part s at (l .end)) where
   line2-is : line2 (length s) (linesOn s at) ≡ cond (isIdentifier line) (ok at) (no 4 at)
-  unfolding isIdentifier exactly
-  line2-is =
-      by-order at (length s) (λ h. rw (lines-step s at h, ← body-of s at l e line q))
-      (λ h. let z : length s ≡ at = omega arith in rw (lines-last s at h, q, no-bytes s at (l .end) h, z))
+  line2-is = rw (lines-step s at (found-here s at f e l z), ← body-of s at f e l z line q)
 
 -- ---- 3, 4, 5
-module _ (s : List ℕ) (year month : ℕ) (a : Span) (ea : a ≡ spanAt s 0) (line : List ℕ) (el : line ≡ part s 0 (a .end)) (h : Headed) (eh : paperHeaded h ≡ headingOf line) where
+pub top-empty : (s : List ℕ) (year month : ℕ) (f : Lined) → paperLined f ≡ spanAt s 0 → f ≡ lined.Nothing
+    → (r : Topped) → r ≡ topped.Refused (refusalFor wrongHeading 0) → paperTopped s r ≡ topOf s year month
+unfolding topOf andThen
+top-empty s year month f e q r p = rw (p, lines-last s 0 (found-none s 0 f e q))
+
+module _ (s : List ℕ) (year month : ℕ) (fa : Lined) (ea : paperLined fa ≡ spanAt s 0) (a : Span) (qa : fa ≡ lined.Line a) (line : List ℕ) (el : line ≡ part s 0 (a .end)) (h : Headed) (eh : paperHeaded h ≡ headingOf line) where
   heading-is : line1 (linesOf s) ≡ rule.headed (paperHeaded h)
-  heading-is = line1-is s a ea line el ∙ rw eh
+  heading-is = line1-is s 0 fa ea a qa line el ∙ rw eh
 
   pub top-heading : h ≡ headed.Wrong → (r : Topped) → r ≡ topped.Refused (refusalFor wrongHeading 0) → paperTopped s r ≡ topOf s year month
   unfolding topOf andThen
@@ -83,29 +81,38 @@ module _ (s : List ℕ) (year month : ℕ) (a : Span) (ea : a ≡ spanAt s 0) (l
       let w : line1 (linesOf s) ≡ no 3 0 = heading-is ∙ ap (λ (x : Headed). rule.headed (paperHeaded x)) q in
       rw (e, w)
 
-  module _ (g : Heading) (q : h ≡ headed.Right g) (b : Span) (eb : b ≡ spanAt s (a .next)) (name : List ℕ) (en : name ≡ part s (a .next) (b .end)) (t : Bool) (et : t ≡ isIdentifier name) where
+  module _ (g : Heading) (q : h ≡ headed.Right g) (fb : Lined) (eb : paperLined fb ≡ spanAt s (a .next)) where
     first-line : line1 (linesOf s) ≡ ok (paperHeading g)
     first-line = heading-is ∙ ap (λ (x : Headed). rule.headed (paperHeaded x)) q
 
-    second-line : line2 (length s) (later (linesOf s)) ≡ cond t (ok (a .next)) (no 4 (a .next))
-    second-line =
-        ap (line2 (length s)) (later-is s 0 ∙ ap (linesOn s) (sym (next-of s 0 a ea)))
-        ∙ line2-is s (a .next) (omega (arith, next-of s 0 a ea, next-within s 0 (omega arith))) b eb name en ∙ rw (← et)
+    next-lines : later (linesOf s) ≡ linesOn s (a .next)
+    next-lines = later-is s 0 ∙ ap (linesOn s) (sym (found-next s 0 fa ea a qa))
 
-    pub top-identifier : t ≡ false → (r : Topped) → r ≡ topped.Refused (refusalFor wrongIdentifier (a .next)) → paperTopped s r ≡ topOf s year month
+    pub top-short : fb ≡ lined.Nothing → (r : Topped) → r ≡ topped.Refused (refusalFor wrongIdentifier (a .next)) → paperTopped s r ≡ topOf s year month
     unfolding topOf andThen
-    top-identifier n r e = rw (e, first-line, second-line, n)
+    top-short z r e =
+        let h : length s ≤ a .next = found-none s (a .next) fb eb z in
+        let m : length s ≡ a .next = omega (arith, found-next s 0 fa ea a qa, next-within s 0 (omega arith)) in
+        rw (e, first-line, next-lines, lines-last s (a .next) h, m)
 
-    module _ (y : t ≡ true) (m : Moment) (em : paperMoment m ≡ minuteOf (record { year = year; month = month; stamp = g .stamp })) where
-      pub top-issue : m ≡ moment.Nothing → (r : Topped) → r ≡ topped.Refused (refusalFor wrongTime 0) → paperTopped s r ≡ topOf s year month
+    module _ (b : Span) (qb : fb ≡ lined.Line b) (name : List ℕ) (en : name ≡ part s (a .next) (b .end)) (t : Bool) (et : t ≡ isIdentifier name) where
+      second-line : line2 (length s) (later (linesOf s)) ≡ cond t (ok (a .next)) (no 4 (a .next))
+      second-line = ap (line2 (length s)) next-lines ∙ line2-is s (a .next) fb eb b qb name en ∙ rw (← et)
+
+      pub top-identifier : t ≡ false → (r : Topped) → r ≡ topped.Refused (refusalFor wrongIdentifier (a .next)) → paperTopped s r ≡ topOf s year month
       unfolding topOf andThen
-      top-issue n r e = rw (e, first-line, second-line, y, ← em, n)
+      top-identifier n r e = rw (e, first-line, second-line, n)
 
-      third-lines : later (later (linesOf s)) ≡ linesOn s (b .next)
-      third-lines =
-          ap later (later-is s 0 ∙ ap (linesOn s) (sym (next-of s 0 a ea))) ∙ later-is s (a .next) ∙ ap (linesOn s) (sym (next-of s (a .next) b eb))
+      module _ (y : t ≡ true) (m : Moment) (em : paperMoment m ≡ minuteOf (record { year = year; month = month; stamp = g .stamp })) where
+        pub top-issue : m ≡ moment.Nothing → (r : Topped) → r ≡ topped.Refused (refusalFor wrongTime 0) → paperTopped s r ≡ topOf s year month
+        unfolding topOf andThen
+        top-issue n r e = rw (e, first-line, second-line, y, ← em, n)
 
-      pub top-right : (issue : ℕ) → m ≡ moment.At issue
-          → paperTopped s (topped.Right (record { heading = g; identifier = a .next; issue = issue; third = b .next })) ≡ topOf s year month
-      unfolding topOf andThen
-      top-right issue z = rw (first-line, second-line, y, ← em, z, third-lines)
+        third-lines : later (later (linesOf s)) ≡ linesOn s (b .next)
+        third-lines =
+            ap later next-lines ∙ later-is s (a .next) ∙ ap (linesOn s) (sym (found-next s (a .next) fb eb b qb))
+
+        pub top-right : (issue : ℕ) → m ≡ moment.At issue
+            → paperTopped s (topped.Right (record { heading = g; identifier = a .next; issue = issue; third = b .next })) ≡ topOf s year month
+        unfolding topOf andThen
+        top-right issue z = rw (first-line, second-line, y, ← em, z, third-lines)

@@ -2,9 +2,11 @@
 use Prim.Native.Nat.{ℕ, _≤_, _<_}
 use mathlib.Core.List.{List, [], _∷_}
 use mathlib.Core.Bool.{Bool, cond, _||_}
+use mathlib.Core.Option.{Option, none, some}
 use lib.ListN.{length, drop}
 use Rattle.lines.specs.Lines.{Line, linesFrom, blank, isEnd, opens}
 use Rattle.heading.specs.Storm.{isOffice}
+use Rattle.lines.specs.declared.Span.{Span}
 use Rattle.bulletin.specs.declared.Sought.{Sought}
 use Rattle.bulletin.specs.declared.Sought.the-variants.{Opening, End, Blank, Close, OfficeOrClose}
 use Rattle.bulletin.specs.declared.Found.{Found}
@@ -47,6 +49,11 @@ linesOn text at = linesFrom at (drop at text)
 abbrev pub foundLines : List ℕ → Found → List Line
 foundLines text Nothing = []
 foundLines text (At at) = linesOn text at
+
+-- the place after the line that starts at `at`; `at` itself, where none does
+abbrev pub nextIn : ℕ → Option Span → ℕ
+nextIn at none = at
+nextIn at (some l) = l .next
 
 -- a place that was found is a place of the text
 abbrev pub Inside : List ℕ → ℕ → Found → Type 0

@@ -8,7 +8,7 @@ use Rattle.refusal.specs.Answer.{Answer, ok, refused, andThen}
 use Rattle.lines.specs.Lines.{Line, blank, isEnd, opens}
 use Rattle.codes.specs.Block.{Content, contentAt, readBlock, lastOf}
 use Rattle.lines.specs.Spans.{spanAt}
-use Rattle.bulletin.specs.Search.{fromFirst, later}
+use Rattle.bulletin.specs.Search.{fromFirst, later, nextIn}
 use Rattle.bulletin.specs.Mnd.{pastMnd}
 
 -- its first byte's place, where its block starts too; the place after its block's last line, and after its `$$` line; and its content
@@ -20,7 +20,7 @@ pub record Segment : Type 0 where
 
 -- the place after the line with the purge of the block that starts at a place: the purge "ends the block and its line"
 abbrev pub pastBlock : List ℕ → ℕ → ℕ
-pastBlock text start = (spanAt text (lastOf (readBlock text start))) .next
+pastBlock text start = nextIn (lastOf (readBlock text start)) (spanAt text (lastOf (readBlock text start)))
 
 -- "A segment runs up to and with the line that is exactly `$$`." 8 at its start where there is none; the next segments stand in the lines after it.
 abbrev pub ended : List ℕ → Line → Content → (List Line → Answer (List Segment)) → List Line → Answer (List Segment)

@@ -8,14 +8,16 @@ use heading::Headed;
 use heading::Heading;
 use heading::Named;
 use heading::Storm;
+use lines::Lined;
 use reading::Purge;
 use refusal::Refusal;
 use refusal::Verdict;
 ghost use lib.ListN.{length};
 ghost use Rattle.codes.specs.Places.{capacity};
+ghost use Rattle.lines.specs.Spans.{spanAt};
 ghost use Rattle.bulletin.specs.Segments.{most, fromLine3};
 ghost use Rattle.bulletin.specs.Seen.{Stepped, seenFrom, listOf, Sized, paperListed};
-ghost use Rattle.bulletin.specs.Search.{fromFirst, upToFirst, afterFirst, testOf, closes, linesOn, foundLines, Inside};
+ghost use Rattle.bulletin.specs.Search.{fromFirst, upToFirst, afterFirst, testOf, closes, linesOn, foundLines, Inside, nextIn};
 ghost use Rattle.heading.specs.Storm.{isOffice};
 ghost use Rattle.bulletin.specs.Mnd.{officeStorm};
 ghost use Rattle.bulletin.specs.Front.{paperStormed, paperStart, checked, paperTopped, topOf};
@@ -67,10 +69,9 @@ fn first(text: &[u8], from: usize, sought: Sought) -> Found
 {
     let mut at = from;
     let found = 'search: loop {
-        if text.len() <= at {
+        let Lined::Line(l) = lines::find_line(text, at) else {
             break 'search Found::Nothing;
-        }
-        let l = lines::find_line(text, at);
+        };
         let line = lines::part(text, at, l.end);
         if is_sought(line, sought) {
             break 'search Found::At(at);
@@ -78,6 +79,16 @@ fn first(text: &[u8], from: usize, sought: Sought) -> Found
         at = l.next;
     };
     found
+}
+
+// The place after the line that starts at `at`; `at` itself, where none does.
+fn after_line(text: &[u8], at: usize) -> usize
+    ensures { λ r. ⌜ r ≡ nextIn at (spanAt (now (text .entry)) at) ⌝ }
+{
+    let Lined::Line(l) = lines::find_line(text, at) else {
+        return at;
+    };
+    l.next
 }
 
 // A segment: its first byte's place, where its block starts too, the place after its block's last line, the place after its `$$` line, its purge minute and how many
@@ -162,14 +173,14 @@ fn next_segment(
             let Found::At(end) = first(text, start, Sought::End) else {
                 return refused(refusal::NO_END, start);
             };
-            let b = lines::find_line(text, content.last);
-            let l = lines::find_line(text, end);
+            let block = after_line(text, content.last);
+            let past = after_line(text, end);
             let held = places.held;
             keep(kept, at, &held[0..count]);
             Next::One(Segment {
                 start,
-                block: b.next,
-                past: l.next,
+                block,
+                past,
                 purge: minute,
                 count,
             })
@@ -223,8 +234,7 @@ fn after_first(text: &[u8], from: usize, sought: Sought) -> usize
     let Found::At(at) = first(text, from, sought) else {
         return text.len();
     };
-    let l = lines::find_line(text, at);
-    l.next
+    after_line(text, at)
 }
 
 enum Stormed {
@@ -239,7 +249,9 @@ fn read_storm(text: &[u8], from: usize) -> Stormed
     let Found::At(at) = first(text, from, Sought::OfficeOrClose) else {
         return Stormed::Right(Storm::None);
     };
-    let l = lines::find_line(text, at);
+    let Lined::Line(l) = lines::find_line(text, at) else {
+        return Stormed::Right(Storm::None);
+    };
     let line = lines::part(text, at, l.end);
     if closes(line) {
         return Stormed::Right(Storm::None);
@@ -262,14 +274,12 @@ enum Start {
 fn first_place(text: &[u8], third: usize, mnd: usize) -> Start
     ensures { λ r. ⌜ paperStart (now (text .entry)) r ≡ fromLine3 (afterFirst closes (linesOn (now (text .entry)) mnd)) (length (now (text .entry))) (linesOn (now (text .entry)) third) ⌝ }
 {
-    let n = text.len();
-    if n <= third {
+    let Lined::Line(l) = lines::find_line(text, third) else {
         return Start::Refused(Refusal {
             number: refusal::NO_SEGMENT,
-            place: n,
+            place: text.len(),
         });
-    }
-    let l = lines::find_line(text, third);
+    };
     let line = lines::part(text, third, l.end);
     if lines::is_blank(line) {
         return Start::From(after_first(text, mnd, Sought::Close));
@@ -325,13 +335,17 @@ fn top_refused(number: usize, place: usize) -> Topped
 fn read_top(text: &[u8], year: usize, month: usize) -> Topped
     ensures { λ r. ⌜ paperTopped (now (text .entry)) r ≡ topOf (now (text .entry)) year month ⌝ }
 {
-    let one = lines::find_line(text, 0);
+    let Lined::Line(one) = lines::find_line(text, 0) else {
+        return top_refused(refusal::WRONG_HEADING, 0);
+    };
     let line = lines::part(text, 0, one.end);
     let Headed::Right(heading) = heading::read_heading(line) else {
         return top_refused(refusal::WRONG_HEADING, 0);
     };
     let second = one.next;
-    let two = lines::find_line(text, second);
+    let Lined::Line(two) = lines::find_line(text, second) else {
+        return top_refused(refusal::WRONG_IDENTIFIER, second);
+    };
     let name = lines::part(text, second, two.end);
     if heading::is_identifier(name) {
         let stamp = heading.stamp;

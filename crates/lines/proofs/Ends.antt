@@ -4,15 +4,19 @@ use native.Mathlib.Numerals.{add-one}
 use native.Mathlib.Omega.{arith}
 use mathlib.Core.Path.{_≡_, refl, sym, ap, _∙_, subst}
 use mathlib.Core.List.{List, [], _∷_}
+use mathlib.Core.Option.{Option, none, some}
 use mathlib.Core.Bool.{Bool, true, false, cond, _&&_, not, and-true, and-assoc}
 use lib.ListN.{length, getD, take, drop, length-drop, drop-of-length-le, List·getD-eq-default}
 use lib.Seq.{drop-cons, drop-drop}
 use lib.Dec.{eqb, ltb}
 use borrow.Author.Tests.{ne-eqb, eqb-true, ltb-true, ltb-false}
-use Rattle.laws.proofs.Tests.{by, apart}
+use Rattle.laws.proofs.Tests.{by, by-order, impossible, apart}
 use Rattle.lines.specs.Bytes.{lf, word, begins, exactly}
 use Rattle.lines.specs.Lines.{pieces, lineEnd, bodyOf, Line, linesAt, linesFrom}
-use Rattle.lines.specs.Spans.{spanOf, spanAt, part, ending}
+use Rattle.lines.specs.Spans.{spanOf, spanAt, paperLined, part, ending}
+use Rattle.lines.specs.declared.Span.{Span}
+use Rattle.lines.specs.declared.Lined.{Lined}
+use Rattle.lines.specs.declared.Lined.the-variants as lined
 use Rattle.lines.proofs.Strings.{begins-is}
 
 -- ---- a line's end at a place, by the bytes there
@@ -206,12 +210,35 @@ pub lines-last : (s : List ℕ) (at : ℕ) → length s ≤ at → linesFrom at 
 unfolding linesAt pieces
 lines-last s at h = rw (drop-of-length-le s h)
 
--- the places of the line there
-pub span-is : (s : List ℕ) (at : ℕ) → spanAt s at ≡ record { start = at; end = endOf s at; next = nextOf s at }
+-- the places of the line there, if the text has a byte there
+abbrev pub spanOn : List ℕ → ℕ → Span
+spanOn s at = record { start = at; end = endOf s at; next = nextOf s at }
+
+pub span-here : (s : List ℕ) (at : ℕ) → at < length s → spanAt s at ≡ some (spanOn s at)
 unfolding spanAt endOf
-span-is s at =
-    by (ltb at (length s)) (λ p. ap (spanOf at) (lines-step s at (ltb-true at (length s) p)))
-    λ p. let h = ltb-false at (length s) p in ap (spanOf at) (lines-last s at h) ∙ rw (next-last s at h, end-last s at h)
+span-here s at h = ap spanOf (lines-step s at h)
+
+pub span-none : (s : List ℕ) (at : ℕ) → length s ≤ at → spanAt s at ≡ none
+unfolding spanAt
+span-none s at h = ap spanOf (lines-last s at h)
+
+-- ---- what was found: the line's places, or that the text has no byte there
+module _ (s : List ℕ) (at : ℕ) (r : Lined) (e : paperLined r ≡ spanAt s at) where
+  pub found-none : r ≡ lined.Nothing → length s ≤ at
+  found-none q = by-order at (length s) (λ h. let z : none ≡ some (spanOn s at) = sym (ap paperLined q) ∙ e ∙ span-here s at h in apart cc) (λ h. h)
+
+  module _ (l : Span) (q : r ≡ lined.Line l) where
+    pub found-here : at < length s
+    found-here = by-order at (length s) (λ h. h) (λ h. let z : some l ≡ none = sym (ap paperLined q) ∙ e ∙ span-none s at h in apart cc)
+
+    found-span : l ≡ spanOn s at
+    found-span = let z : some l ≡ some (spanOn s at) = sym (ap paperLined q) ∙ e ∙ span-here s at found-here in cc
+
+    pub found-end : l .end ≡ endOf s at
+    found-end = ap (λ (k : Span). k .end) found-span
+
+    pub found-next : l .next ≡ nextOf s at
+    found-next = ap (λ (k : Span). k .next) found-span
 
 -- ---- a search for a line's end: i stands in the line that starts at `at`
 pub record InLine (s : List ℕ) (at i : ℕ) : Type 0 where
@@ -223,15 +250,15 @@ pub in-start : (s : List ℕ) (at : ℕ) → InLine s at at
 in-start s at = record { low = omega arith; ends = refl; goes = refl }
 
 module _ (s : List ℕ) (at i : ℕ) (v : InLine s at i) where
-  spans : (e n : ℕ) → endOf s i ≡ e → nextOf s i ≡ n → record { start = at; end = e; next = n } ≡ spanAt s at
-  spans e n p q = rw (span-is s at, v .ends, v .goes, p, q)
+  spans : at < length s → (e n : ℕ) → endOf s i ≡ e → nextOf s i ≡ n → some (record { start = at; end = e; next = n }) ≡ spanAt s at
+  spans h e n p q = rw (span-here s at h, v .ends, v .goes, p, q)
 
-  pub in-last : length s ≤ i → record { start = at; end = i; next = i } ≡ spanAt s at
-  in-last h = spans i i (end-last s i h) (next-last s i h)
+  pub in-last : at < length s → length s ≤ i → some (record { start = at; end = i; next = i }) ≡ spanAt s at
+  in-last t h = spans t i i (end-last s i h) (next-last s i h)
 
   module _ (h : i < length s) (k : ℕ) (e : k ≡ ending (drop i s)) where
     pub in-on : k ≡ 0 → InLine s at (i + 1)
     in-on z = record { low = omega (arith, v .low); ends = v .ends ∙ end-on s i h k e z; goes = v .goes ∙ next-on s i h k e z }
 
-    pub in-here : (k ≡ 0 → ⊥) → record { start = at; end = i; next = i + k } ≡ spanAt s at
-    in-here n = spans i (i + k) (end-here s i h k e n) (next-here s i h k e n)
+    pub in-here : (k ≡ 0 → ⊥) → some (record { start = at; end = i; next = i + k }) ≡ spanAt s at
+    in-here n = spans (omega (arith, v .low)) i (i + k) (end-here s i h k e n) (next-here s i h k e n)

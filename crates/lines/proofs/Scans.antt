@@ -2,7 +2,7 @@
 use Prim.Native.Nat.{ℕ, zero, suc, _+_, _-_, _≤_, _<_, suc-le-suc}
 use native.Mathlib.Numerals.{add-one}
 use native.Mathlib.Omega.{arith}
-use mathlib.Core.Path.{_≡_, refl, sym, _∙_}
+use mathlib.Core.Path.{_≡_, refl, sym, ap, _∙_}
 use mathlib.Core.List.{List, [], _∷_}
 use mathlib.Core.Bool.{Bool, true, false, cond, _&&_}
 use lib.ListN.{length, getD, drop, length-drop}
@@ -11,10 +11,11 @@ use lib.Dec.{leb}
 use borrow.Author.Tests.{leb-true, leb-false, le-leb, lt-leb}
 use Rattle.laws.proofs.Tests.{by, by-order, impossible, and-left}
 use Rattle.lines.specs.Bytes.{between}
-use Rattle.lines.specs.Spans.{ending, spanAt}
+use Rattle.lines.specs.Spans.{ending, spanAt, paperLined}
 use Rattle.lines.specs.Printables.{printables, Skipped}
-use Rattle.lines.specs.declared.Span.{Span}
-use Rattle.lines.proofs.Ends.{no-end, InLine, in-start, in-on, in-here, in-last}
+use Rattle.lines.specs.declared.Lined.{Lined}
+use Rattle.lines.specs.declared.Lined.the-variants as lined
+use Rattle.lines.proofs.Ends.{no-end, span-none, InLine, in-start, in-on, in-here, in-last}
 
 -- ---- at the front
 most : (s : List ℕ) → printables s ≤ length s
@@ -138,23 +139,24 @@ module _ (s : List ℕ) (i e : ℕ) (is : e ≡ i + printables (drop i s)) where
 
 -- ---- a search for a line's end, over printable bytes at once: i stands in the line that starts at `at`
 pub record Inside (s : List ℕ) (at i : ℕ) : Type 0 where
+  pub there : at < length s
   pub within : i ≤ length s
   pub line : InLine s at i
 
-pub past-last : (s : List ℕ) (at : ℕ) → length s < at → (r : Span) → r ≡ record { start = at; end = at; next = at } → r ≡ spanAt s at
-past-last s at h r q = q ∙ in-last s at at (in-start s at) (omega arith)
+pub past-last : (s : List ℕ) (at : ℕ) → length s ≤ at → paperLined lined.Nothing ≡ spanAt s at
+past-last s at h = sym (span-none s at h)
 
-pub inside-start : (s : List ℕ) (at : ℕ) → at ≤ length s → Inside s at at
-inside-start s at h = record { within = h; line = in-start s at }
+pub inside-start : (s : List ℕ) (at : ℕ) → at < length s → Inside s at at
+inside-start s at h = record { there = h; within = omega arith; line = in-start s at }
 
 module _ (s : List ℕ) (at i : ℕ) (v : Inside s at i) (e : ℕ) (is : e ≡ i + printables (drop i s)) where
-  pub inside-last : length s ≤ e → (r : Span) → r ≡ record { start = at; end = e; next = e } → r ≡ spanAt s at
-  inside-last h r q = q ∙ in-last s at e (in-over s i e is at (v .line)) h
+  pub inside-last : length s ≤ e → (r : Lined) → r ≡ lined.Line (record { start = at; end = e; next = e }) → paperLined r ≡ spanAt s at
+  inside-last h r q = ap paperLined q ∙ in-last s at e (in-over s i e is at (v .line)) (v .there) h
 
   module _ (h : e < length s) (k : ℕ) (ek : k ≡ ending (drop e s)) where
-    pub inside-here : (k ≡ 0 → ⊥) → record { start = at; end = e; next = e + k } ≡ spanAt s at
-    inside-here n = in-here s at e (in-over s i e is at (v .line)) h k ek n
+    pub inside-here : (k ≡ 0 → ⊥) → (r : Lined) → r ≡ lined.Line (record { start = at; end = e; next = e + k }) → paperLined r ≡ spanAt s at
+    inside-here n r q = ap paperLined q ∙ in-here s at e (in-over s i e is at (v .line)) h k ek n
 
     -- a byte that is not printable and ends no line
     pub inside-next : k ≡ 0 → Inside s at (e + 1)
-    inside-next z = record { within = omega arith; line = in-on s at e (in-over s i e is at (v .line)) h k ek z }
+    inside-next z = record { there = v .there; within = omega arith; line = in-on s at e (in-over s i e is at (v .line)) h k ek z }

@@ -2,19 +2,26 @@
 use Prim.Native.Nat.{ℕ, _+_, _-_}
 use mathlib.Core.List.{List, [], _∷_}
 use mathlib.Core.Bool.{cond}
+use mathlib.Core.Option.{Option, none, some}
 use lib.ListN.{length, take, drop}
 use Rattle.lines.specs.Bytes.{word, begins}
 use Rattle.lines.specs.Lines.{Line, linesFrom}
 use Rattle.lines.specs.declared.Span.{Span}
+use Rattle.lines.specs.declared.Lined.{Lined}
+use Rattle.lines.specs.declared.Lined.the-variants as lined
 
--- the places of the first of these lines; where there is none, of the empty line at the text's end
-abbrev pub spanOf : ℕ → List Line → Span
-spanOf at [] = record { start = at; end = at; next = at }
-spanOf at (l ∷ ls) = record { start = l .start; end = l .start + length (l .body); next = l .next }
+-- the places of the first of these lines, if there is one
+abbrev pub spanOf : List Line → Option Span
+spanOf [] = none
+spanOf (l ∷ ls) = some (record { start = l .start; end = l .start + length (l .body); next = l .next })
 
--- the line of the text that starts at `at`
-unfoldable pub spanAt : List ℕ → ℕ → Span
-spanAt text at = spanOf at (linesFrom at (drop at text))
+-- the line of the text that starts at `at`, if one starts there
+unfoldable pub spanAt : List ℕ → ℕ → Option Span
+spanAt text at = spanOf (linesFrom at (drop at text))
+
+abbrev pub paperLined : Lined → Option Span
+paperLined (lined.Line l) = some l
+paperLined lined.Nothing = none
 
 -- the bytes from one place up to another, as far as the text has them
 abbrev pub part : List ℕ → ℕ → ℕ → List ℕ

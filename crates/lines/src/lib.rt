@@ -8,7 +8,7 @@ ghost use Rattle.refusal.specs.Answer.{refusalFor, paperVerdict};
 ghost use Rattle.lines.specs.Bytes.{between, capital, digit, literally, begins};
 ghost use Rattle.lines.specs.Lines.{blank, isEnd, opens};
 ghost use Rattle.lines.specs.Check.{checkText};
-ghost use Rattle.lines.specs.Spans.{spanAt, part, ending};
+ghost use Rattle.lines.specs.Spans.{spanAt, paperLined, part, ending};
 ghost use Rattle.lines.specs.Printables.{printables, Skipped};
 use refusal::Refusal;
 use refusal::Verdict;
@@ -18,6 +18,12 @@ pub struct Span {
     pub start: usize,
     pub end: usize,
     pub next: usize,
+}
+
+// The line that was asked for, or none.
+pub enum Lined {
+    Line(Span),
+    Nothing,
 }
 
 pub fn capital(b: u8) -> bool
@@ -150,37 +156,29 @@ fn printable_end(text: &[u8], at: usize) -> usize
     hop(text, d, 1)
 }
 
-// A line that nothing ends: the next one starts where its bytes end.
-fn unended(start: usize, end: usize) -> Span
-    ensures { λ r. ⌜ r ≡ record { start = start; end = end; next = end } ⌝ }
+fn line(start: usize, end: usize, next: usize) -> Lined
+    ensures { λ r. ⌜ r ≡ Lined.Line (record { start = start; end = end; next = next }) ⌝ }
 {
-    Span {
-        start,
-        end,
-        next: end,
-    }
+    Lined::Line(Span { start, end, next })
 }
 
-// The line that starts at `at`; past the text's last line an empty one.
-pub fn find_line(text: &[u8], at: usize) -> Span
-    ensures { λ r. ⌜ r ≡ spanAt (now (text .entry)) at ⌝ }
+// The line that starts at `at`, if one starts there.
+pub fn find_line(text: &[u8], at: usize) -> Lined
+    ensures { λ r. ⌜ paperLined r ≡ spanAt (now (text .entry)) at ⌝ }
 {
-    if text.len() < at {
-        return unended(at, at);
+    if text.len() <= at {
+        return Lined::Nothing;
     }
     let mut from = at;
     loop {
         let end = printable_end(text, from);
+        // The last line may be without an end: the next one would start where its bytes end.
         if text.len() <= end {
-            return unended(at, end);
+            return line(at, end, end);
         }
         let k = ending(text, end);
         if k != 0 {
-            return Span {
-                start: at,
-                end,
-                next: end + k,
-            };
+            return line(at, end, end + k);
         }
         // A byte that is not printable and ends no line: the line goes on behind it.
         from = end + 1;

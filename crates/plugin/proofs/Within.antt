@@ -15,14 +15,14 @@ use Rattle.refusal.specs.Numbers.{Reason, wrongText, wrongTime, wrongBlock, noS
 use Rattle.refusal.specs.Answer.{Answer, ok, no, refused, refusedAt, must, andThen}
 use Rattle.lines.specs.Bytes.{lf}
 use Rattle.lines.specs.Lines.{glue, pieces, lineEnd, bodyOf, Line, linesAt, linesFrom, linesOf, blank, isEnd, opens}
-use Rattle.lines.specs.declared.Span.{Span}
 use Rattle.lines.specs.Check.{allowed, badByte, lineMost, longLine, lastEnds, unended, least, textFault, checkText}
-use Rattle.lines.proofs.Ends.{nextOf, next-within, span-is}
+use Rattle.lines.proofs.Ends.{nextOf, next-within}
 use Rattle.calendar.specs.Purge.{purgeOf}
 use Rattle.codes.specs.Places.{capacity}
 use Rattle.codes.specs.Elements.{Element, dash, null, elementsAt, elementsOfBody, elementsOfLines, Said, covers, purge, wrong, said}
 use Rattle.codes.specs.Block.{insertCovered, Read, block, wrongAt, ended, readFrom, readBlock, lastOf, Content, dated, contentIn, contentAt}
 use Rattle.codes.proofs.Turns.{read-covers, read-purge, read-wrong}
+use Rattle.bulletin.proofs.Seeking.{next-is}
 use Rattle.bulletin.specs.Search.{fromFirst, upToFirst, later, closes}
 use Rattle.bulletin.specs.Mnd.{pastMnd}
 use Rattle.bulletin.specs.Segments as segments
@@ -241,7 +241,7 @@ module _ (text : List ℕ) (n : ℕ) (fits : length text ≤ n) where
   past-in : (at : ℕ) → at ≤ length text → pastBlock text at ≤ n
   past-in at h =
       let last = lastOf (readBlock text at) in
-      let e : pastBlock text at ≡ nextOf text last = ap (λ (s : Span). s .next) (span-is text last) in
+      let e : pastBlock text at ≡ nextOf text last = next-is text last in
       omega (arith, next-within text last (block-in at h))
 
   abbrev Next : (List Line → Answer (List Segment)) → Type 0

@@ -12,6 +12,7 @@ use heading::Bbb;
 use heading::Storm;
 use heading::StormId;
 use libc::STDOUT_FILENO;
+use lines::Lined;
 use refusal::Refusal;
 use writing::Written;
 
@@ -102,18 +103,24 @@ fn say_storm(storm: Storm) {
     }
 }
 
+// The line that starts at `at`, without its end.
+fn say_line(text: &[u8], at: usize) {
+    if let Lined::Line(line) = lines::find_line(text, at) {
+        say(lines::part(text, line.start, line.end));
+    }
+}
+
 // The heading's three fields, BBB or `-`, the identifier, the storm or `-`.
 fn say_head(text: &[u8], head: Head) {
     let heading = head.heading;
     let bbb = heading.bbb;
     let storm = head.storm;
-    let name = lines::find_line(text, head.identifier);
     say(b"H ");
     say(lines::part(text, 0, 18));
     say(b" ");
     say_bbb(bbb);
     say(b" ");
-    say(lines::part(text, name.start, name.end));
+    say_line(text, head.identifier);
     say(b" ");
     say_storm(storm);
     say(b"\n");

@@ -46,11 +46,11 @@ refused-requires-2 c κs = search needs
 returns-3 : tie.Need-returns-3
 returns-3 c = (search (step-no-end, needs), search (kept-refused, needs))
 
-find-line-requires : tie.Need-find-line-requires
-find-line-requires c κs = search needs
+after-line-requires : tie.Need-after-line-requires
+after-line-requires c κs = search needs
 
-find-line-requires-2 : tie.Need-find-line-requires-2
-find-line-requires-2 c κs = search needs
+after-line-requires-2 : tie.Need-after-line-requires-2
+after-line-requires-2 c κs = search needs
 
 sub-keep : tie.Need-sub-keep
 sub-keep c = search needs
@@ -78,7 +78,7 @@ returns-5 c =
     let f = r .before .before .before .before .before in (
       step-one _ _ _ _ _ (f .first .ensures .0) (f .first .ensures .1) _ (r .before .before .before .start .given .1) (r .before .if1 .left) _ (r .read-content .ensures .0)
           _ (d .purge2 .given .1) _ (e .before .before .before .before .before .first2 .ensures .0)
-          (r .read-content .ensures .1 .0) (e .before .before .before .before .before .first2 .ensures .1) _ (e .before .before .before .end .given .1) _ _ (e .find-line2 .ensures) (e .before .find-line .ensures) (r .read-content .ensures .1 .1),
+          (r .read-content .ensures .1 .0) (e .before .before .before .before .before .first2 .ensures .1) _ (e .before .before .before .end .given .1) _ _ (e .after-line2 .ensures) (e .before .after-line .ensures) (r .read-content .ensures .1 .1),
       search (kept-one, needs),
     )
 
@@ -100,8 +100,8 @@ next-segment-spec =
     enum-told-2
     refused-requires-2
     returns-3
-    find-line-requires
-    find-line-requires-2
+    after-line-requires
+    after-line-requires-2
     sub-keep
     part-keep-start
     part-keep-end

@@ -17,7 +17,6 @@ find-line-spec =
     (tie.spec
     Inv-loop
     μ-loop
-    (λ c κs. search needs)
     (λ c. search (past-last, needs))
     (λ c. search (inside-start, needs))
     (λ c κs. search needs)
@@ -25,6 +24,7 @@ find-line-spec =
     (λ c. search (inside-last, needs))
     (λ c κs. search needs)
     (λ c. search needs)
+    (λ c κs. search needs)
     (λ c. search (inside-here, needs))
     (λ c. search needs)
     (λ c. search needs)
