@@ -1,25 +1,19 @@
 -- Laws of months, minutes, dates and purge minutes. Whoever calls this crate cites these, and never the definitions. Assumes nothing.
 use Prim.Native.Nat.{ℕ, zero, suc, _+_, _-_, _*_, _/_, _%_, _≤_, _<_}
-use native.Mathlib.Numerals.{add-one}
 use native.Mathlib.Omega.{arith}
 use mathlib.Core.Path.{_≡_, refl, sym, ap, _∙_}
 use mathlib.Core.Bool.{Bool, true, cond, _&&_}
-use mathlib.Core.List.{List, [], _∷_}
 use mathlib.Core.Option.{Option, none, some}
 use lib.Dec.{leb, ltb, eqb}
 use borrow.Author.Tests.{leb-true, ltb-true, ltb-false, lt-ltb, le-leb, eq-eqb, eqb-true, eqb-false}
-use Rattle.laws.proofs.Tests.{by, by-order, impossible, apart, either-way, and-left, and-right}
-use Rattle.laws.proofs.Tables.{every, every-at}
+use Rattle.laws.proofs.Tests.{by, by-order, impossible, apart, and-left, and-right}
 use Rattle.calendar.specs.declared.Stamp.{Stamp}
 use Rattle.calendar.specs.declared.Date.{Date}
-use Rattle.calendar.specs.Calendar.{leap, monthLength, monthNumber, yearOf, monthOfYear, daysIn, isIssueMonth, issueMonths, allMonths, startOf, isTime, minuteIn, dayExists, isMonth, minuteOf, monthFrom, monthOf, stampAfter, dateIn, dateOf}
-use Rattle.calendar.specs.Months.{Time}
+use Rattle.calendar.specs.Calendar.{leap, february, monthLength, nextMonth, afterJanuary, monthNumber, yearOf, monthOfYear, daysIn, isIssueMonth}
+use Rattle.calendar.specs.Calendar.{issueMonths, allMonths, startOf, isTime, minuteIn, dayExists, isMonth, minuteOf, monthFrom, monthOf, stampAfter}
+use Rattle.calendar.specs.Calendar.{dateIn, dateOf}
+use Rattle.calendar.specs.Months.{Time, lengthIn}
 use Rattle.calendar.specs.Purge.{notBefore, purgeIn, purgeUnder, purgeOf, gives, ownStamp, isPurge}
-use Rattle.calendar.specs.declared.Moment.{Moment}
-use Rattle.calendar.specs.declared.Moment.the-variants as moment
-use Rattle.calendar.specs.declared.Dated.{Dated}
-use Rattle.calendar.specs.declared.Dated.the-variants as dated
-use Rattle.calendar.specs.Paper.{paperMoment, paperDated}
 
 -- ---- months
 -- where the next month starts
@@ -31,19 +25,32 @@ start-first : startOf 0 ≡ 0
 unfolding startOf
 start-first = refl
 
+-- every number below n passes a test
+unfoldable pub passes : (ℕ → Bool) → ℕ → Bool
+passes p zero = true
+passes p (suc n) = passes p n && p n
+
+pub passes-at : (p : ℕ → Bool) (n i : ℕ) → passes p n ≡ true → i < n → p i ≡ true
+unfolding passes
+passes-at p zero i e h = impossible (omega arith)
+passes-at p (suc n) i e h =
+    by-order i n
+    (λ l. passes-at p n i (and-left (passes p n) (p n) e) l)
+    (λ l. let same : i ≡ n = omega arith in rw same (and-right (passes p n) (p n) e))
+
 abbrev inMonth : ℕ → Bool
 inMonth x = leb 28 x && leb x 31
 
--- the months' lengths, but for February of a leap year
-abbrev pub lengths : List ℕ
-lengths = 31 ∷ 28 ∷ 31 ∷ 30 ∷ 31 ∷ 30 ∷ 31 ∷ 31 ∷ 30 ∷ 31 ∷ 30 ∷ 31 ∷ []
+month-days : (year i : ℕ) → i < 12 → inMonth (monthLength year (afterJanuary i)) ≡ true
+unfolding monthLength afterJanuary nextMonth passes
+month-days year i h =
+    by (leap year)
+    (λ e. passes-at (λ j. inMonth (monthLength year (afterJanuary j))) 12 i (rw e) h)
+    (λ e. passes-at (λ j. inMonth (monthLength year (afterJanuary j))) 12 i (rw e) h)
 
 days-in : (k : ℕ) → inMonth (daysIn k) ≡ true
-unfolding daysIn monthLength every
-days-in k =
-    either-way (λ (x : ℕ). inMonth x ≡ true) (eqb (monthOfYear k) 2 && leap (yearOf k))
-    refl
-    (rw (add-one (k % 12)) (every-at inMonth lengths 0 (k % 12) refl (omega arith)))
+unfolding daysIn
+days-in k = month-days (yearOf k) (k % 12) (omega arith)
 
 -- a month has 28 days or more
 pub days-low : (k : ℕ) → 28 ≤ daysIn k
@@ -65,27 +72,41 @@ start-mono a b h = let e : a + (b - a) ≡ b = omega arith in rw e at (start-fro
 
 -- ---- years
 -- the days of the month k, by its year and month
-pub days-of : (k year month : ℕ) → yearOf k ≡ year → monthOfYear k ≡ month → daysIn k ≡ monthLength year month
+pub days-of : (k year month : ℕ) → yearOf k ≡ year → monthOfYear k ≡ month → daysIn k ≡ lengthIn year month
 unfolding daysIn
-days-of k year month y m = rw (y, m)
+days-of k year month y m = let i : k % 12 ≡ month - 1 = omega arith in rw (y, i)
 
-year-step : (n m : ℕ) → ltb m 12 ≡ true → startOf (12 * n + suc m) ≡ startOf (12 * n + m) + 1440 * monthLength (1970 + n) (suc m)
+year-step : (n m : ℕ) → ltb m 12 ≡ true → startOf (12 * n + suc m) ≡ startOf (12 * n + m) + 1440 * lengthIn (1970 + n) (suc m)
 year-step n m h =
     let low = ltb-true m 12 h in
     let e : 12 * n + suc m ≡ suc (12 * n + m) = omega arith in
     rw (e, start-next (12 * n + m), days-of (12 * n + m) (1970 + n) (suc m) (omega arith) (omega arith))
 
-february : (n : ℕ) → monthLength (1970 + n) 2 + (n + 1) / 4 ≡ 28 + (n + 2) / 4
+february-days : (n : ℕ) → monthLength (1970 + n) february + (n + 1) / 4 ≡ 28 + (n + 2) / 4
 unfolding monthLength leap
-february n =
+february-days n =
     by (eqb ((1970 + n) % 4) 0)
     (λ e. rw e (omega (arith, eqb-true ((1970 + n) % 4) 0 e)))
     (λ e. rw e (omega (arith, eqb-false ((1970 + n) % 4) 0 e)))
 
-year-next : (n : ℕ) → startOf (12 * n + 12) ≡ startOf (12 * n + 0) + 1440 * (337 + monthLength (1970 + n) 2)
-unfolding monthLength
+year-next : (n : ℕ) → startOf (12 * n + 12) ≡ startOf (12 * n + 0) + 1440 * (337 + monthLength (1970 + n) february)
+unfolding monthLength afterJanuary nextMonth
 year-next n =
-    omega (arith, year-step n 0 refl, year-step n 1 refl, year-step n 2 refl, year-step n 3 refl, year-step n 4 refl, year-step n 5 refl, year-step n 6 refl, year-step n 7 refl, year-step n 8 refl, year-step n 9 refl, year-step n 10 refl, year-step n 11 refl)
+    omega (
+      arith,
+      year-step n 0 refl,
+      year-step n 1 refl,
+      year-step n 2 refl,
+      year-step n 3 refl,
+      year-step n 4 refl,
+      year-step n 5 refl,
+      year-step n 6 refl,
+      year-step n 7 refl,
+      year-step n 8 refl,
+      year-step n 9 refl,
+      year-step n 10 refl,
+      year-step n 11 refl,
+    )
 
 -- where the year 1970 + n starts
 pub start-year : (n : ℕ) → startOf (12 * n) ≡ 1440 * (365 * n + (n + 1) / 4)
@@ -93,11 +114,11 @@ start-year zero = start-first
 start-year (suc n) =
     let a : 12 * suc n ≡ 12 * n + 12 = omega arith in
     let b : 12 * n + 0 ≡ 12 * n = omega arith in
-    rw (a, year-next n, b, start-year n) (omega (arith, february n))
+    rw (a, year-next n, b, start-year n) (omega (arith, february-days n))
 
 -- where the calendar ends
 pub start-end : startOf allMonths ≡ 68418720
-unfolding monthLength
+unfolding monthLength afterJanuary
 start-end = omega (arith, start-next issueMonths, start-year 130, days-of issueMonths 2100 1 refl refl)
 
 -- ---- the month of a minute
@@ -201,7 +222,8 @@ pub time-is : (s : Stamp) → Time s → isTime s ≡ true
 unfolding isTime
 time-is s t = rw (le-leb 1 (s .day) (t .first), le-leb (s .day) 31 (t .last), le-leb (s .hour) 23 (t .hours), le-leb (s .minute) 59 (t .minutes))
 
-stamp-path : {d d′ h h′ m m′ : ℕ} → d ≡ d′ → h ≡ h′ → m ≡ m′ → _≡_ {A = Stamp} (record { day = d; hour = h; minute = m }) (record { day = d′; hour = h′; minute = m′ })
+stamp-path : {d d′ h h′ m m′ : ℕ} → d ≡ d′ → h ≡ h′ → m ≡ m′
+    → _≡_ {A = Stamp} (record { day = d; hour = h; minute = m }) (record { day = d′; hour = h′; minute = m′ })
 stamp-path e f g = λ i. record { day = e i; hour = f i; minute = g i }
 
 -- a DDHHMM of month k
@@ -509,22 +531,3 @@ purge-own issue t e = go (dateOf t) refl e
     go : (o : Option Date) → dateOf t ≡ o → ownStamp issue t o ≡ true → Purged issue t
     go none a h = apart cc
     go (some d) a h = own d (purgeOf issue (d .stamp)) a refl h
-
--- a purge minute is not before the issue
-pub purge-after : (issue t : ℕ) → isPurge issue t ≡ true → issue ≤ t
-purge-after issue t e = let p = purge-own issue t e in purge-from issue (p .date .stamp) t (p .given)
-
--- ---- the code's answers
--- different minutes are different answers
-pub moment-one : (a b : Moment) → paperMoment a ≡ paperMoment b → a ≡ b
-moment-one moment.Nothing moment.Nothing e = refl
-moment-one moment.Nothing (moment.At m) e = apart cc
-moment-one (moment.At m) moment.Nothing e = apart cc
-moment-one (moment.At m) (moment.At n) e = let same : m ≡ n = cc in ap moment.At same
-
--- different dates are different answers
-pub dated-one : (a b : Dated) → paperDated a ≡ paperDated b → a ≡ b
-dated-one dated.Nothing dated.Nothing e = refl
-dated-one dated.Nothing (dated.On d) e = apart cc
-dated-one (dated.On d) dated.Nothing e = apart cc
-dated-one (dated.On d) (dated.On f) e = let same : d ≡ f = cc in ap dated.On same

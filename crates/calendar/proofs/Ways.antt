@@ -3,13 +3,13 @@ use Prim.Native.Nat.{ℕ, suc, _+_, _-_, _*_, _/_, _%_, _≤_, _<_}
 use native.Mathlib.Omega.{arith}
 use mathlib.Core.Path.{_≡_, refl, sym, ap, _∙_}
 use mathlib.Core.Bool.{Bool, true, false, not, _&&_, _||_, or-true}
-use mathlib.Core.List.{_∷_}
+use mathlib.Core.List.{List, [], _∷_}
 use mathlib.Core.Option.{Option, none, some}
-use lib.ListN.{getD, List·getD-eq-default}
+use lib.ListN.{getD}
 use lib.Dec.{leb, ltb, eqb}
 use mir.Syntax.{w64}
 use mir.Val.{Fits}
-use borrow.Author.Tests.{leb-true, ltb-true, lt-ltb, le-ltb, le-leb, lt-leb, ne-eqb, eq-eqb, eqb-true, not-true, not-false}
+use borrow.Author.Tests.{leb-true, ltb-true, lt-ltb, le-leb, lt-leb, ne-eqb, eq-eqb, eqb-true, not-true, not-false}
 use Rattle.laws.proofs.Tests.{by, by-order, impossible, apart, and-left, and-right, same-test}
 use Rattle.laws.proofs.Tables.{every, every-at}
 use Rattle.calendar.specs.declared.Stamp.{Stamp}
@@ -17,34 +17,49 @@ use Rattle.calendar.specs.declared.Date.{Date}
 use Rattle.calendar.specs.declared.Month.{Month}
 use Rattle.calendar.specs.declared.Found.{Found}
 use Rattle.calendar.specs.declared.Found.the-variants as found
-use Rattle.calendar.specs.Calendar.{leap, monthLength, monthNumber, yearOf, monthOfYear, daysIn, isIssueMonth, issueMonths, allMonths, startOf, isTime, minuteIn, dayExists, isMonth, minuteOf, monthOf, stampAfter, dateOf}
+use Rattle.calendar.specs.Calendar.{leap, monthLength, nextMonth, afterJanuary, monthNumber, yearOf, monthOfYear, daysIn, isIssueMonth, issueMonths}
+use Rattle.calendar.specs.Calendar.{allMonths, startOf, isTime, minuteIn, dayExists, isMonth, minuteOf, monthOf, stampAfter, dateOf}
 use Rattle.calendar.specs.declared.Moment.the-variants as moment
 use Rattle.calendar.specs.declared.Dated.the-variants as dated
 use Rattle.calendar.specs.Paper.{paperMoment, paperDated}
-use Rattle.calendar.specs.Purge.{notBefore, purgeIn, purgeOf, isPurge}
-use Rattle.calendar.specs.declared.Window.{Window}
+use Rattle.calendar.specs.Purge.{notBefore, purgeIn, purgeOf}
 use Rattle.calendar.specs.declared.Windowed.the-variants as windowed
-use Rattle.calendar.specs.Window.{windowAt, windowOf, paperWindowed}
-use Rattle.calendar.specs.Months.{InYear, Time, monthAt, monthIn, paperFound}
-use Rattle.calendar.proofs.Laws.{start-next, days-low, days-high, start-mono, start-year, start-end, days-of, lengths, Falls, falls-low, falls-one, month-some, month-none, month-is, month-past, time-true, time-is, month-true, known-month, issue-true, issue-month, minute-after, after-time, after-day, after-back, date-is, purge-true, falls-purge, purge-is, purge-own, Purges}
+use Rattle.calendar.specs.Window.{windowOf, paperWindowed}
+use Rattle.calendar.specs.Months.{Twelve, InYear, Time, lengthIn, monthAt, monthIn, paperFound}
+use Rattle.calendar.proofs.Laws.{passes, passes-at, start-next, days-high, start-mono, start-year, start-end, days-of, Falls, falls-low, month-some}
+use Rattle.calendar.proofs.Laws.{month-is, month-past, time-true, month-true, known-month, issue-true, issue-month, date-is}
 
 -- ---- month_length
+-- the code's list, January to December
+abbrev lengths : List ℕ
+lengths = 31 ∷ 28 ∷ 31 ∷ 30 ∷ 31 ∷ 30 ∷ 31 ∷ 31 ∷ 30 ∷ 31 ∷ 30 ∷ 31 ∷ []
+
+-- February of a leap year stands apart
+abbrev listed : ℕ → ℕ → Bool
+listed year month = eqb month 0 || (eqb month 2 && leap year) || eqb (getD lengths (month - 1) 0) (lengthIn year month)
+
+lengths-listed : (year : ℕ) → passes (listed year) 13 ≡ true
+unfolding monthLength afterJanuary nextMonth passes
+lengths-listed year = by (leap year) (λ e. rw e) (λ e. rw e)
+
 module _ (year month : ℕ) where
-  pub length-leap : (eqb month 2 && eqb (year % 4) 0) ≡ true → 29 ≡ monthLength year month
-  unfolding monthLength leap
-  length-leap h = simp h
+  pub length-leap : (eqb month 2 && eqb (year % 4) 0) ≡ true → 29 ≡ lengthIn year month
+  unfolding monthLength afterJanuary nextMonth leap
+  length-leap h =
+      let two : month ≡ 2 = eqb-true month 2 (and-left (eqb month 2) (eqb (year % 4) 0) h) in
+      rw (two, and-right (eqb month 2) (eqb (year % 4) 0) h)
 
-  module _ (h : (eqb month 2 && eqb (year % 4) 0) ≡ false) where
-    pub length-plain : getD (0 ∷ lengths) month 0 ≡ monthLength year month
-    unfolding monthLength leap
-    length-plain = simp h
+  module _ (low : 1 ≤ month) (high : month ≤ 12) where
+    pub length-plain : (eqb month 2 && eqb (year % 4) 0) ≡ false → getD lengths (month - 1) 0 ≡ lengthIn year month
+    unfolding leap
+    length-plain h =
+        let no : eqb month 0 ≡ false = ne-eqb month 0 (omega arith) in
+        let here : listed year month ≡ true = passes-at (listed year) 13 month (lengths-listed year) (omega arith) in
+        eqb-true (getD lengths (month - 1) 0) (lengthIn year month) (rw (no, h) at here)
 
-    pub length-none : 13 ≤ month → 0 ≡ monthLength year month
-    length-none k = sym (List·getD-eq-default (0 ∷ lengths) 0 k) ∙ length-plain
-
-pub length-most : (month : ℕ) → month < 13 → getD (0 ∷ lengths) month 0 ≤ 31
-unfolding every
-length-most month h = leb-true _ 31 (every-at (λ x. leb x 31) (0 ∷ lengths) 0 month refl h)
+    pub length-most : getD lengths (month - 1) 0 ≤ 31
+    unfolding every
+    length-most = leb-true _ 31 (every-at (λ x. leb x 31) lengths 0 (month - 1) refl (omega arith))
 
 -- ---- is_month
 pub month-issue : (year month : ℕ) (issue : Bool) → issue ≡ isIssueMonth year month → (issue || (eqb year 2100 && eqb month 1)) ≡ isMonth year month
@@ -71,10 +86,10 @@ month-issue year month issue e = same-test (issue || (eqb year 2100 && eqb month
 
 -- ---- next_length
 module _ (year month r : ℕ) (m : InYear year month) where
-  pub next-year : month ≡ 12 → r ≡ monthLength (year + 1) 1 → r ≡ daysIn (suc (monthNumber year month))
+  pub next-year : month ≡ 12 → r ≡ lengthIn (year + 1) 1 → r ≡ daysIn (suc (monthNumber year month))
   next-year h e = e ∙ sym (days-of (suc (monthNumber year month)) (year + 1) 1 (omega arith) (omega arith))
 
-  pub next-month : (month ≡ 12 → ⊥) → r ≡ monthLength year (month + 1) → r ≡ daysIn (suc (monthNumber year month))
+  pub next-month : (month ≡ 12 → ⊥) → r ≡ lengthIn year (month + 1) → r ≡ daysIn (suc (monthNumber year month))
   next-month h e = e ∙ sym (days-of (suc (monthNumber year month)) year (month + 1) (omega arith) (omega arith))
 
 -- ---- month_start
@@ -97,7 +112,7 @@ module _ (year month : ℕ) (m : InYear year month) where
       record { first = omega arith; last = m .first; here = here; small = omega (arith, start-small (monthNumber year 1) (omega arith)) }
 
   module _ (passed start : ℕ) (p : Passed year month passed start) where
-    pub passed-on : (days : ℕ) → passed < month → days ≡ monthLength year passed → Passed year month (passed + 1) (start + 1440 * days)
+    pub passed-on : (days : ℕ) → passed < month → days ≡ lengthIn year passed → Passed year month (passed + 1) (start + 1440 * days)
     passed-on days h e =
         let k = monthNumber year passed in
         let same : monthNumber year (passed + 1) ≡ suc k = omega arith in
@@ -117,7 +132,7 @@ pub record Turns (t n month start days : ℕ) : Type 0 where
   pub last : month ≤ 12
   pub few : n ≤ 130
   pub here : start ≡ startOf (12 * n + (month - 1))
-  pub days-are : days ≡ monthLength (1970 + n) month
+  pub days-are : days ≡ lengthIn (1970 + n) month
   pub most : days ≤ 31
   pub low : start ≤ t
   pub high : t < startOf (12 * n + 12)
@@ -128,7 +143,8 @@ month-path : {y y′ m m′ s s′ d d′ : ℕ} → y ≡ y′ → m ≡ m′ �
 month-path e f g h = λ i. record { year = e i; month = f i; start = g i; days = h i }
 
 module _ (t n : ℕ) where
-  pub turns-first : (before days : ℕ) → t < 68418720 → n ≡ (4 * (t / 1440) + 2) / 1461 → 1440 * before ≡ startOf (12 * n) → days ≡ monthLength (1970 + n) 1 → days ≤ 31 → Turns t n 1 (1440 * before) days
+  pub turns-first : (before days : ℕ) → t < 68418720 → n ≡ (4 * (t / 1440) + 2) / 1461
+      → 1440 * before ≡ startOf (12 * n) → days ≡ lengthIn (1970 + n) 1 → days ≤ 31 → Turns t n 1 (1440 * before) days
   turns-first before days h e b d most =
       let first : 12 * n + 0 ≡ 12 * n = omega arith in
       let next : 12 * n + 12 ≡ 12 * suc n = omega arith in
@@ -151,20 +167,21 @@ module _ (t n : ℕ) where
     here-next : start + 1440 * days ≡ startOf (suc (12 * n + (month - 1)))
     here-next = omega (arith, v .here, start-next (12 * n + (month - 1)), here-days)
 
-    pub turns-on : (later : ℕ) → start + 1440 * days ≤ t → later ≡ monthLength (1970 + n) (month + 1) → later ≤ 31 → Turns t n (month + 1) (start + 1440 * days) later
-    turns-on later h e most =
-        let k = 12 * n + (month - 1) in
-        let same : 12 * n + (month + 1 - 1) ≡ suc k = omega (arith, v .first) in
-        let not-last : month < 12 =
+    pub turns-more : start + 1440 * days ≤ t → Twelve (month + 1)
+    turns-more h =
+        let last : suc (12 * n + (month - 1)) ≡ 12 * n + month = omega (arith, v .first) in
         by-order month 12
-        (λ l. l)
-        (λ l.
-        let last : suc k ≡ 12 * n + 12 = omega (arith, v .first, v .last) in
-        impossible (omega (arith, ap startOf last, here-next, v .high)))
-        in
+        (λ l. record { first = omega arith; last = omega arith })
+        (λ l. impossible (omega (arith, start-mono (12 * n + 12) (12 * n + month) (omega arith), ap startOf last, here-next, v .high)))
+
+    pub turns-on : (later : ℕ) → start + 1440 * days ≤ t → later ≡ lengthIn (1970 + n) (month + 1) → later ≤ 31
+        → Turns t n (month + 1) (start + 1440 * days) later
+    turns-on later h e most =
+        let same : 12 * n + (month + 1 - 1) ≡ suc (12 * n + (month - 1)) = omega (arith, v .first) in
+        let more = turns-more h in
         record {
-          first = omega arith;
-          last = omega arith;
+          first = more .first;
+          last = more .last;
           few = v .few;
           here = rw same here-next;
           days-are = e;
@@ -174,7 +191,8 @@ module _ (t n : ℕ) where
           end = v .end;
         }
 
-    pub turns-end : t < start + 1440 * days → paperFound (found.In (record { year = 1970 + n; month = month; start = start; days = days })) ≡ monthIn (monthOf t)
+    pub turns-end : t < start + 1440 * days
+        → paperFound (found.In (record { year = 1970 + n; month = month; start = start; days = days })) ≡ monthIn (monthOf t)
     turns-end h =
         let k = 12 * n + (month - 1) in
         let low : startOf k ≤ t = omega (arith, v .here, v .low) in
@@ -249,7 +267,8 @@ module _ (t : ℕ) (r : Found) (e : paperFound r ≡ monthIn (monthOf t)) (m : M
   end-fits n h = omega (arith, sums-fit (1440 * n) (omega arith))
 
 -- ---- date_of
-pub date-on : (t : ℕ) (m : Month) → Stands t m → paperDated (dated.On (record { year = m .year; month = m .month; stamp = stampAfter (t - m .start) })) ≡ dateOf t
+pub date-on : (t : ℕ) (m : Month) → Stands t m
+    → paperDated (dated.On (record { year = m .year; month = m .month; stamp = stampAfter (t - m .start) })) ≡ dateOf t
 date-on t m st = rw (st .year, st .month, st .start) (sym (date-is (st .k) t (st .falls)))
 
 pub date-none : (t : ℕ) → monthOf t ≡ none → paperDated dated.Nothing ≡ dateOf t
@@ -257,32 +276,39 @@ unfolding dateOf
 date-none t q = rw q
 
 -- ---- minute_of
-module _ (d : Date) (a b : Bool) (n : ℕ) (ea : a ≡ isMonth (d .year) (d .month)) (eb : b ≡ isTime (d .stamp)) (en : n ≡ monthLength (d .year) (d .month)) where
-  minute-test : a && b && leb (d .stamp .day) n ≡ isMonth (d .year) (d .month) && isTime (d .stamp) && dayExists (monthNumber (d .year) (d .month)) (d .stamp)
-  minute-test =
-      by (isMonth (d .year) (d .month))
-      (λ h.
-      let k = month-true (d .year) (d .month) h in
-      rw (ea, eb, en, ← days-of (monthNumber (d .year) (d .month)) (d .year) (d .month) (omega (arith, k .from, k .first, k .last)) (omega (arith, k .first, k .last))))
-      (λ h. rw (ea, h))
-
-  pub minute-none : (a && b && leb (d .stamp .day) n) ≡ false → paperMoment moment.Nothing ≡ minuteOf d
+module _ (d : Date) (a b : Bool) (ea : a ≡ isMonth (d .year) (d .month)) (eb : b ≡ isTime (d .stamp)) where
+  pub minute-unusable : not (a && b) ≡ true → paperMoment moment.Nothing ≡ minuteOf d
   unfolding minuteOf
-  minute-none h = rw (← minute-test, h)
+  minute-unusable h = rw (← ea, ← eb, not-true (a && b) h)
 
-  module _ (h : (a && b && leb (d .stamp .day) n) ≡ true) where
+  module _ (h : not (a && b) ≡ false) where
+    both : (a && b) ≡ true
+    both = not-false (a && b) h
+
     pub minute-month : InYear (d .year) (d .month)
     minute-month =
-        let k = month-true (d .year) (d .month) (sym ea ∙ and-left a b (and-left (a && b) (leb (d .stamp .day) n) h)) in
+        let k = month-true (d .year) (d .month) (sym ea ∙ and-left a b both) in
         record { from = k .from; to = omega (arith, k .known, k .first); first = k .first; last = k .last }
 
-    pub minute-time : Time (d .stamp)
-    minute-time = time-true (d .stamp) (sym eb ∙ and-right a b (and-left (a && b) (leb (d .stamp .day) n) h))
+    pub minute-twelve : Twelve (d .month)
+    minute-twelve = record { first = minute-month .first; last = minute-month .last }
 
-    pub minute-here : (start after : ℕ) → start ≡ startOf (monthNumber (d .year) (d .month)) → after ≡ (d .stamp .day - 1) * 1440 + d .stamp .hour * 60 + d .stamp .minute
-        → paperMoment (moment.At (start + after)) ≡ minuteOf d
-    unfolding minuteOf minuteIn
-    minute-here start after e f = rw (← minute-test, h, e, f)
+    pub minute-time : Time (d .stamp)
+    minute-time = time-true (d .stamp) (sym eb ∙ and-right a b both)
+
+    module _ (n : ℕ) (en : n ≡ lengthIn (d .year) (d .month)) where
+      days-here : daysIn (monthNumber (d .year) (d .month)) ≡ n
+      days-here = let m = minute-month in days-of (monthNumber (d .year) (d .month)) (d .year) (d .month) (omega arith) (omega arith) ∙ sym en
+
+      pub minute-none : n < d .stamp .day → paperMoment moment.Nothing ≡ minuteOf d
+      unfolding minuteOf
+      minute-none g = rw (← ea, ← eb, both, days-here, lt-leb (d .stamp .day) n g)
+
+      pub minute-here : d .stamp .day ≤ n
+          → (start after : ℕ) → start ≡ startOf (monthNumber (d .year) (d .month)) → after ≡ (d .stamp .day - 1) * 1440 + d .stamp .hour * 60 + d .stamp .minute
+          → paperMoment (moment.At (start + after)) ≡ minuteOf d
+      unfolding minuteOf minuteIn
+      minute-here g start after e f = rw (← ea, ← eb, both, days-here, le-leb (d .stamp .day) n g, e, f)
 
 -- ---- purge_of
 pub purge-none : (issue : ℕ) (s : Stamp) → monthOf issue ≡ none → paperMoment moment.Nothing ≡ purgeOf issue s
@@ -351,7 +377,14 @@ module _ (issue : ℕ) (m : Month) (st : Stands issue m) where
   window-late h = rw (st .found-at, ← year-test issue m st, lt-leb (m .year) 2099 h)
 
   pub window-is : (n : ℕ) → m .year ≤ 2099 → n ≡ daysIn (suc (monthNumber (m .year) (m .month)))
-      → paperWindowed (windowed.Is (record { issue = issue; since = issue - m .start; next = m .start + 1440 * m .days; lasts = 1440 * m .days; end = m .start + 1440 * m .days + 1440 * n })) ≡ windowOf issue
+      → paperWindowed (windowed.Is (record {
+        issue = issue;
+        since = issue - m .start;
+        next = m .start + 1440 * m .days;
+        lasts = 1440 * m .days;
+        end = m .start + 1440 * m .days + 1440 * n;
+      }))
+      ≡ windowOf issue
   unfolding windowOf
   window-is n h en =
       let k = st .k in

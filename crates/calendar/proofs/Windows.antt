@@ -2,7 +2,7 @@
 use Prim.Native.Nat.{ℕ, suc, _+_, _-_, _*_, _/_, _≤_, _<_}
 use native.Mathlib.Omega.{arith}
 use mathlib.Core.Path.{_≡_, refl, sym, _∙_}
-use mathlib.Core.Bool.{true, false, not, cond, _&&_}
+use mathlib.Core.Bool.{true, false, not, _&&_}
 use mathlib.Core.Option.{Option, none, some}
 use lib.Dec.{leb, ltb}
 use borrow.Author.Tests.{leb-true, ltb-true, lt-ltb, le-ltb, le-leb, lt-leb, ne-eqb, eq-eqb}
@@ -13,7 +13,8 @@ use Rattle.calendar.specs.Calendar.{daysIn, issueMonths, startOf, monthO
 use Rattle.calendar.specs.Purge.{notBefore, purgeIn, purgeOf, isPurge}
 use Rattle.calendar.specs.Months.{Time}
 use Rattle.calendar.specs.Window.{comesFirst, windowAt, windowIn, windowOf, within, WindowOf}
-use Rattle.calendar.proofs.Laws.{start-next, days-low, start-mono, start-end, Falls, falls-one, month-some, month-none, time-is, minute-after, after-time, after-day, after-back, date-is, purge-true, falls-purge, purge-is, purge-own, Purges}
+use Rattle.calendar.proofs.Laws.{start-next, days-low, start-mono, start-end, Falls, falls-one, month-some, month-none, time-is, minute-after}
+use Rattle.calendar.proofs.Laws.{after-time, after-day, after-back, date-is, purge-true, falls-purge, purge-is, purge-own, Purges}
 
 -- ---- what is within a window
 module _ (w : Window) (t : ℕ) where
@@ -80,7 +81,8 @@ module _ (issue k : ℕ) (found-at : monthOf issue ≡ some k) (low : k < issueM
     own-past far =
         not-purge issue t
         (λ s p.
-        omega (arith, falls-purge issue s t p .high, start-mono (suc (p .at)) (suc (suc k)) (omega (arith, p .near, falls-one issue (p .month) k (p .issued) issued))))
+        let near : suc (p .at) ≤ suc (suc k) = omega (arith, p .near, falls-one issue (p .month) k (p .issued) issued) in
+        omega (arith, falls-purge issue s t p .high, start-mono (suc (p .at)) (suc (suc k)) near))
 
     own-next : startOf (suc k) ≤ t → t < startOf (suc (suc k)) → not (comesFirst (windowAt issue k) (t - startOf (suc k))) ≡ isPurge issue t
     unfolding isPurge purgeIn
@@ -92,7 +94,9 @@ module _ (issue k : ℕ) (found-at : monthOf issue ≡ some k) (low : k < issueM
         rw (there-test over (daysIn k), since-test issue (startOf k) over, date-is (suc k) t f, under s (after-time (suc k) t f), minute-after k over)
         (by x
         (λ y. rw y (sym (ne-eqb (startOf k + over) t (λ same. omega (arith, start-next k, days-low k)))))
-        (λ y. rw (y, le-leb (over / 1440 + 1) (daysIn (suc k)) (after-day (suc k) t f), minute-after (suc k) over) (sym (eq-eqb (startOf (suc k) + over) t (omega arith)))))
+        (λ y.
+        rw (y, le-leb (over / 1440 + 1) (daysIn (suc k)) (after-day (suc k) t f), minute-after (suc k) over)
+        (sym (eq-eqb (startOf (suc k) + over) t (omega arith)))))
 
     at-tells : within (windowAt issue k) t ≡ isPurge issue t
     at-tells =

@@ -1,9 +1,7 @@
 -- Document 01, "Time": months, minutes and dates.
 use Prim.Native.Nat.{ℕ, zero, suc, _+_, _-_, _*_, _/_, _%_}
-use mathlib.Core.List.{[], _∷_}
 use mathlib.Core.Bool.{Bool, true, false, cond, _&&_}
 use mathlib.Core.Option.{Option, none, some}
-use lib.ListN.{getD}
 use lib.Dec.{leb, ltb, eqb}
 use Rattle.calendar.specs.declared.Stamp.{Stamp}
 use Rattle.calendar.specs.declared.Date.{Date}
@@ -13,12 +11,57 @@ use Rattle.calendar.specs.declared.Date.{Date}
 unfoldable pub leap : ℕ → Bool
 leap year = eqb (year % 4) 0
 
--- The list of month lengths begins with month 1: there is no month 0. February of a leap year stands apart.
-unfoldable pub monthLength : ℕ → ℕ → ℕ
-monthLength year month =
-    cond (eqb month 2 && leap year) 29 (getD (0 ∷ 31 ∷ 28 ∷ 31 ∷ 30 ∷ 31 ∷ 30 ∷ 31 ∷ 31 ∷ 30 ∷ 31 ∷ 30 ∷ 31 ∷ []) month 0)
+-- the twelve months of a year
+pub data MonthName : Type 0 where
+  january : MonthName
+  february : MonthName
+  march : MonthName
+  april : MonthName
+  may : MonthName
+  june : MonthName
+  july : MonthName
+  august : MonthName
+  september : MonthName
+  october : MonthName
+  november : MonthName
+  december : MonthName
 
--- Months are counted as minutes are, from January 1970 on, which is month 0.
+-- the days of each of them in a year
+unfoldable pub monthLength : ℕ → MonthName → ℕ
+monthLength year january = 31
+monthLength year february = cond (leap year) 29 28
+monthLength year march = 31
+monthLength year april = 30
+monthLength year may = 31
+monthLength year june = 30
+monthLength year july = 31
+monthLength year august = 31
+monthLength year september = 30
+monthLength year october = 31
+monthLength year november = 30
+monthLength year december = 31
+
+-- "the following month"
+unfoldable pub nextMonth : MonthName → MonthName
+nextMonth january = february
+nextMonth february = march
+nextMonth march = april
+nextMonth april = may
+nextMonth may = june
+nextMonth june = july
+nextMonth july = august
+nextMonth august = september
+nextMonth september = october
+nextMonth october = november
+nextMonth november = december
+nextMonth december = january
+
+-- the month so many after January
+unfoldable pub afterJanuary : ℕ → MonthName
+afterJanuary zero = january
+afterJanuary (suc n) = nextMonth (afterJanuary n)
+
+-- Months are counted as minutes are, from January 1970 on, which is month 0. The months of a year have the numbers 1..12.
 abbrev pub monthNumber : ℕ → ℕ → ℕ
 monthNumber year month = 12 * (year - 1970) + (month - 1)
 
@@ -28,8 +71,9 @@ yearOf k = 1970 + k / 12
 abbrev pub monthOfYear : ℕ → ℕ
 monthOfYear k = k % 12 + 1
 
+-- the days of month k: it stands k % 12 after its year's January
 unfoldable pub daysIn : ℕ → ℕ
-daysIn k = monthLength (yearOf k) (monthOfYear k)
+daysIn k = monthLength (yearOf k) (afterJanuary (k % 12))
 
 -- "The caller lends the issue's year (1970..2099) and month."
 unfoldable pub isIssueMonth : ℕ → ℕ → Bool

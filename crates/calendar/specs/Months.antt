@@ -1,11 +1,20 @@
--- What the code keeps of a month, and what it asks of a month and of a DDHHMM.
-use Prim.Native.Nat.{ℕ, _≤_}
+-- This file serves the code: what it keeps of a month, and what it asks of a month and of a DDHHMM.
+use Prim.Native.Nat.{ℕ, _-_, _≤_}
 use mathlib.Core.Option.{Option, none, some}
-use Rattle.calendar.specs.Calendar.{yearOf, monthOfYear, startOf, daysIn}
+use Rattle.calendar.specs.Calendar.{monthLength, afterJanuary, yearOf, monthOfYear, startOf, daysIn}
 use Rattle.calendar.specs.declared.Stamp.{Stamp}
 use Rattle.calendar.specs.declared.Month.{Month}
 use Rattle.calendar.specs.declared.Found.{Found}
 use Rattle.calendar.specs.declared.Found.the-variants as found
+
+-- one of the twelve months
+pub record Twelve (month : ℕ) : Type 0 where
+  pub first : 1 ≤ month
+  pub last : month ≤ 12
+
+-- its length in a year
+abbrev pub lengthIn : ℕ → ℕ → ℕ
+lengthIn year month = monthLength year (afterJanuary (month - 1))
 
 abbrev pub monthAt : ℕ → Month
 monthAt k = record { year = yearOf k; month = monthOfYear k; start = startOf k; days = daysIn k }

@@ -1,11 +1,11 @@
 // Dates, minutes and the purge rule of document 01, "Time".
 ghost use mathlib.Core.Path.{_≡_};
 ghost use Prim.Native.Nat.{suc, _+_, _-_, _*_, _≤_};
-ghost use Rattle.calendar.specs.Calendar.{isIssueMonth, isMonth, isTime, monthLength, monthNumber, daysIn, startOf, monthOf, minuteOf, dateOf};
+ghost use Rattle.calendar.specs.Calendar.{isIssueMonth, isMonth, isTime, monthNumber, daysIn, startOf, monthOf, minuteOf, dateOf};
 ghost use Rattle.calendar.specs.Purge.{purgeOf};
 ghost use Rattle.calendar.specs.Window.{within, windowOf, paperWindowed};
 ghost use Rattle.calendar.specs.Paper.{paperMoment, paperDated};
-ghost use Rattle.calendar.specs.Months.{InYear, Time, monthIn, paperFound};
+ghost use Rattle.calendar.specs.Months.{Twelve, InYear, Time, lengthIn, monthIn, paperFound};
 
 // DDHHMM.
 pub struct Stamp {
@@ -44,8 +44,8 @@ enum Found {
     Nothing,
 }
 
-// The lengths of the months 1..12; there is no month 0.
-const LENGTHS: [usize; 13] = [0, 31, 28, 31, 30, 31, 30, 31, 31, 30, 31, 30, 31];
+// The lengths of the months, January to December, of a year that is no leap year.
+const LENGTHS: [usize; 12] = [31, 28, 31, 30, 31, 30, 31, 31, 30, 31, 30, 31];
 
 // 2100-02-01 0000, where the calendar ends.
 const END: usize = 68418720;
@@ -63,13 +63,14 @@ pub fn is_time(s: Stamp) -> bool
 }
 
 fn month_length(year: usize, month: usize) -> usize
-    ensures is { λ r. ⌜ r ≡ monthLength year month ⌝ }
+    requires { ⌜ Twelve month ⌝ }
+    ensures is { λ r. ⌜ r ≡ lengthIn year month ⌝ }
     ensures most { λ r. ⌜ r ≤ 31 ⌝ }
 {
     if (month == 2) & (year % 4 == 0) {
         return 29;
     }
-    if month < 13 { LENGTHS[month] } else { 0 }
+    LENGTHS[month - 1]
 }
 
 // The days before the year 1970 + n: 365 for each, and one for each leap year.
@@ -172,7 +173,11 @@ pub fn minute_of(date: Date) -> Moment
     let year = date.year;
     let month = date.month;
     let s = date.stamp;
-    if is_month(year, month) & is_time(s) & (s.day <= month_length(year, month)) {
+    let usable = is_month(year, month) & is_time(s);
+    if !usable {
+        return Moment::Nothing;
+    }
+    if s.day <= month_length(year, month) {
         return Moment::At(month_start(year, month) + time_in(s));
     }
     Moment::Nothing

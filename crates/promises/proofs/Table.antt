@@ -3,7 +3,7 @@ use lib.Dec.{T}
 use Rattle.refusal.specs.Answer.{andThen}
 use Rattle.lines.specs.Bytes.{begins, exactly}
 use Rattle.lines.specs.Lines.{pieces, lineEnd, bodyOf, linesAt, blank, isEnd, opens}
-use Rattle.calendar.specs.Calendar.{leap, monthLength, daysIn, isIssueMonth, startOf, isTime, minuteIn, isMonth, minuteOf, monthFrom, monthOf, dateOf}
+use Rattle.calendar.specs.Calendar.{leap, monthLength, nextMonth, afterJanuary, daysIn, isIssueMonth, startOf, isTime, minuteIn, isMonth, minuteOf, monthFrom, monthOf, dateOf}
 use Rattle.calendar.specs.Purge.{purgeIn, purgeOf}
 use Rattle.codes.specs.Elements.{elementsAt, elementsOfLines, numbers, time, short, said}
 use Rattle.codes.specs.Block.{insert, insertRun, readFrom, readBlock, contentAt}
@@ -21,5 +21,5 @@ use Rattle.bulletin.specs.Bulletin.{isLength, readBulletin}
 use Rattle.promises.specs.Examples.{all, table}
 
 pub examples : T (all table)
-unfolding sameList begins exactly pieces lineEnd bodyOf linesAt leap monthLength daysIn startOf isTime minuteIn isMonth minuteOf monthFrom monthOf dateOf purgeIn purgeOf elementsAt elementsOfLines numbers time short said insert insertRun readFrom readBlock contentAt join runsOf spansOf elementOf elementsOf purgeElement blockElements wrapFrom inOrder rendered written ascends isSet writtenBlock blank isEnd opens badByte longLine lastEnds unended least textFault checkText isIssueMonth andThen isHeading headingOf isIdentifier isOffice namesStorm basinOf classOf stormOf fromFirst upToFirst stormIn segmentsFrom firstLines segmentsOf isLength readBulletin
+unfolding sameList begins exactly pieces lineEnd bodyOf linesAt leap monthLength nextMonth afterJanuary daysIn startOf isTime minuteIn isMonth minuteOf monthFrom monthOf dateOf purgeIn purgeOf elementsAt elementsOfLines numbers time short said insert insertRun readFrom readBlock contentAt join runsOf spansOf elementOf elementsOf purgeElement blockElements wrapFrom inOrder rendered written ascends isSet writtenBlock blank isEnd opens badByte longLine lastEnds unended least textFault checkText isIssueMonth andThen isHeading headingOf isIdentifier isOffice namesStorm basinOf classOf stormOf fromFirst upToFirst stormIn segmentsFrom firstLines segmentsOf isLength readBulletin
 examples = tt

@@ -1,4 +1,4 @@
-use Rattle.calendar.proofs.Ways.{minute-here, minute-none, minute-month, minute-time}
+use Rattle.calendar.proofs.Ways.{minute-unusable, minute-month, minute-twelve, minute-time, minute-here, minute-none}
 use borrow.Author.Needs.{needs}
 use Rattle.calendar.proofs.minute_of.Statement.{statement}
 use Rattle.calendar.proofs.minute_of.Tie as tie
@@ -9,7 +9,8 @@ minute-of-spec =
     (tie.spec
     (λ c κs. search needs)
     (λ c κs. search needs)
-    (λ c κs. search needs)
+    (λ c. search (minute-unusable, needs))
+    (λ c κs. search (minute-twelve, needs))
     (λ c κs. search (minute-month, needs))
     (λ c κs. search (minute-time, needs))
     (λ c. search needs)

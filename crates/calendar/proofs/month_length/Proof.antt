@@ -1,4 +1,4 @@
-use Rattle.calendar.proofs.Ways.{length-leap, length-plain, length-most, length-none}
+use Rattle.calendar.proofs.Ways.{length-leap, length-plain, length-most}
 use borrow.Author.Needs.{needs}
 use Rattle.calendar.proofs.month_length.Statement.{statement}
 use Rattle.calendar.proofs.month_length.Tie as tie
@@ -8,5 +8,5 @@ month-length-spec = tie.close (tie.spec
     (λ c. search (length-leap, needs))
     (λ c. search needs)
     (λ c. search needs)
-    (λ c. search (length-plain, length-most, needs))
-    (λ c. search (length-none, needs)))
+    (λ c. search needs)
+    (λ c. search (length-plain, length-most, needs)))

@@ -1,5 +1,5 @@
 use Prim.Native.Nat.{_-_}
-use Rattle.calendar.proofs.Ways.{Turns, month-gone, turns-first, turns-on, turns-end}
+use Rattle.calendar.proofs.Ways.{Turns, month-gone, turns-first, turns-more, turns-on, turns-end}
 use borrow.Author.Needs.{needs}
 use Rattle.calendar.proofs.month_of.Statement.{statement}
 use Rattle.calendar.proofs.month_of.Tie as tie
@@ -30,7 +30,7 @@ month-of-spec =
     (λ c. search needs)
     (λ c. search needs)
     (λ c. search needs)
-    (λ c κs. search needs)
+    (λ c κs. search (turns-more, needs))
     (λ c. search needs)
     (λ c. search (turns-on, needs))
     (λ c. search needs)

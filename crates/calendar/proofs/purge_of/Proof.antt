@@ -1,4 +1,5 @@
-use Rattle.calendar.proofs.Ways.{none-found, stands, in-year, days-fit, sum-fits, sums-fit, purge-none, purge-unusable, usable-time, purge-here, purge-next, purge-gone}
+use Rattle.calendar.proofs.Ways.{none-found, stands, in-year, days-fit, sum-fits, sums-fit, purge-none, purge-unusable, usable-time, purge-here}
+use Rattle.calendar.proofs.Ways.{purge-next, purge-gone}
 use borrow.Author.Needs.{needs}
 use Rattle.calendar.proofs.purge_of.Statement.{statement}
 use Rattle.calendar.proofs.purge_of.Tie as tie
