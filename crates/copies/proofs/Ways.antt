@@ -1,14 +1,13 @@
--- The ways out of a work on a draft's copy. Assumes nothing.
+-- The ways out of a work on a draft's copy that the calls share: it is refused, or there is a copy. Assumes nothing.
 use Prim.Native.Nat.{ℕ, _≤_, _<_}
 use native.Mathlib.Omega.{arith}
-use mathlib.Core.Path.{_≡_, refl, sym, ap, _∙_}
+use mathlib.Core.Path.{_≡_, sym, ap, _∙_}
 use mathlib.Core.List.{List}
 use mathlib.Core.Bool.{Bool, true}
 use lib.ListN.{length, getD, take}
-use lib.Seq.{length-take-le, getD-take}
-use Rattle.laws.proofs.Lookups.{get-some, get-none}
-use Rattle.refusal.specs.Numbers.{notTaken, outOfRange}
-use Rattle.refusal.specs.Answer.{ok, no, refusalFor, paperVerdict, paperRefusal}
+use lib.Seq.{length-take-le}
+use Rattle.refusal.specs.Numbers.{notTaken}
+use Rattle.refusal.specs.Answer.{refusalFor, paperVerdict}
 use Rattle.refusal.specs.declared.Refusal.{Refusal}
 use Rattle.refusal.specs.declared.Verdict.{Verdict}
 use Rattle.refusal.specs.declared.Verdict.the-variants.{Accepted, Refused}
@@ -19,8 +18,8 @@ use Rattle.blocks.specs.Content.{contentOf}
 use Rattle.blocks.specs.Held.{heldContent, Fits}
 use Rattle.blocks.specs.declared.Held.{Held}
 use Rattle.blocks.proofs.Numbers.{Bytes}
-use Rattle.steps.specs.Calls.{Edit, readPurge, readCount, readPlace, editing, on, edited, inRange, number, placeAt}
-use Rattle.layout.specs.Rule.{onBytes, paperReply}
+use Rattle.steps.specs.Calls.{Edit, Work, editing, on, edited, inRange}
+use Rattle.layout.specs.Rule.{onBytes, paperReply, Does}
 use Rattle.layout.specs.declared.Reply.{Reply}
 use Rattle.layout.specs.declared.Reply.the-variants as reply
 use Rattle.copies.specs.Admission.{admission}
@@ -28,7 +27,7 @@ use Rattle.copies.specs.Copies.{copyBlock, paperFound, Admitted}
 use Rattle.copies.specs.declared.Found.{Found}
 use Rattle.copies.specs.declared.Found.the-variants as found
 use Rattle.copies.proofs.Works.{base-of}
-use Rattle.copies.proofs.Admits.{Works, works-at, Same, absent-at, refused-at, admitted-at, ranged-at}
+use Rattle.copies.proofs.Admits.{Works, works-at, absent-at, refused-at, admitted-at, ranged-at}
 
 -- the admission accepts
 module _ (l : List ℕ) (d s : ℕ) (v : Verdict) (t : Bool) (is : v ≡ Accepted) (says : paperVerdict v ≡ admission l d t s) where
@@ -40,15 +39,9 @@ module _ (l : List ℕ) (d s : ℕ) (v : Verdict) (t : Bool) (is : v ≡ Accepte
 
 module _ (l : List ℕ) (y : Bytes l) (d s : ℕ) (v : Verdict) where
   -- the admission refuses
-  module _ (e : Edit) (r : Refusal) (is : v ≡ Refused r) (says : paperVerdict v ≡ admission l d (inRange (editing e)) s) where
-    refusing : Same l (paperRefusal r) (on d s (editing e))
-    refusing = refused-at l d s (editing e) r y (sym (ap paperVerdict is) ∙ says)
-
-    pub refused-answer : paperReply (reply.Refused r) ≡ onBytes l (on d s (editing e)) .0
-    refused-answer = refusing .answer
-
-    pub refused-bytes : l ≡ onBytes l (on d s (editing e)) .1
-    refused-bytes = refusing .bytes
+  module _ (w : Work) (r : Refusal) (is : v ≡ Refused r) (says : paperVerdict v ≡ admission l d (inRange w) s) where
+    pub refused-does : Does l l (on d s w) (reply.Refused r)
+    refused-does = let same = refused-at l d s w r y (sym (ap paperVerdict is) ∙ says) in record { answer = same .answer; left = same .bytes }
 
   module _ (t : Bool) (is : v ≡ Accepted) (says : paperVerdict v ≡ admission l d t s) where
     in-book : Admitted l d s
@@ -71,14 +64,10 @@ module _ (l : List ℕ) (y : Bytes l) (d s : ℕ) (v : Verdict) where
 
       -- there is none
       module _ (e : Edit) (r : inRange (editing e) ≡ true) (none : f ≡ found.NotTaken) (a : Reply) (answers : a ≡ reply.Refused (refusalFor notTaken 0)) where
-        absent : Same l (no 16 0) (on d s (editing e))
-        absent = absent-at l d s e (base-of l y (in-book .sound)) in-book r (sym is-at ∙ ap paperFound none)
-
-        pub absent-answers : paperReply a ≡ onBytes l (on d s (editing e)) .0
-        absent-answers = ap paperReply answers ∙ absent .answer
-
-        pub absent-keeps : l ≡ onBytes l (on d s (editing e)) .1
-        absent-keeps = absent .bytes
+        pub absent-does : Does l l (on d s (editing e)) a
+        absent-does =
+            let same = absent-at l d s e (base-of l y (in-book .sound)) in-book r (sym is-at ∙ ap paperFound none) in
+            record { answer = ap paperReply answers ∙ same .answer; left = same .bytes }
 
 -- ---- a work on the copy, by the content that was loaded
 pub count-is : (h : Held) → Fits h → length (take (h .count) (h .places)) ≡ h .count

@@ -10,9 +10,8 @@ use borrow.Author.Tests.{le-leb, lt-leb}
 use Rattle.laws.proofs.Tests.{by-order, impossible, apart}
 use Rattle.refusal.specs.Numbers.{takenAlready, twoTaken}
 use Rattle.refusal.specs.Answer.{ok, refusalFor, paperVerdict}
-use Rattle.refusal.specs.declared.Refusal.{Refusal}
 use Rattle.refusal.specs.declared.Verdict.{Verdict}
-use Rattle.refusal.specs.declared.Verdict.the-variants.{Accepted, Refused}
+use Rattle.refusal.specs.declared.Verdict.the-variants.{Accepted}
 use Rattle.codes.specs.Block.{Content}
 use Rattle.blocks.specs.Block.{bookLength}
 use Rattle.blocks.proofs.Numbers.{Bytes}
@@ -35,7 +34,7 @@ use Rattle.copies.specs.declared.Found.the-variants as found
 use Rattle.copies.proofs.Copies.{index-some, index-none}
 use Rattle.copies.proofs.Finds.{open-zero, there-zero}
 use Rattle.copies.proofs.Works.{Base, base-of, still}
-use Rattle.copies.proofs.Admits.{Opened, opened-at, some-of, refused-at, admitted-at}
+use Rattle.copies.proofs.Admits.{Opened, opened-at, some-of, admitted-at}
 
 -- ---- how many segments a draft has taken
 copies-are : (l : List ℕ) (d : ℕ) → 1 ≤ d → d ≤ 4 → isSound l ≡ true
@@ -146,13 +145,6 @@ module _ (l : List ℕ) (base : Base l) (long : length l ≡ bookLength) (d s : 
       (acts-is (ok done) new (work-is none e ∙ ap (takes s c (o .ks)) (lt-leb 2 (length (o .ks)) h))) refl q
 
 -- ---- the ways out
--- 1, 12, 13, 15
-pub take-refused : (l : List ℕ) (y : Bytes l) (d s : ℕ) (v : Verdict) (r : Refusal) → v ≡ Refused r → paperVerdict v ≡ admission l d true s
-    → Does l l (on d s taking) (reply.Refused r)
-take-refused l y d s v r is says =
-    let same = refused-at l d s taking r y (sym (ap paperVerdict is) ∙ says) in
-    record { answer = same .answer; left = same .bytes }
-
 -- the copy that was sought
 block-some : (d k : ℕ) (i : Option ℕ) → blockIn d i ≡ some k → (n : ℕ) × (i ≡ some n)
 block-some d k none e = apart cc

@@ -10,7 +10,7 @@ ghost use Rattle.blocks.specs.Block.{bookLength, blockCount, putBlock};
 ghost use Rattle.blocks.specs.Content.{holding};
 ghost use Rattle.blocks.specs.Held.{heldContent, Fits};
 ghost use Rattle.steps.specs.Calls.{member, without, on, editing, add, remove, setPurge};
-ghost use Rattle.layout.specs.Rule.{onBytes, paperReply};
+ghost use Rattle.layout.specs.Rule.{Does};
 use blocks::Held;
 use calendar::Moment;
 use calendar::Stamp;
@@ -114,8 +114,7 @@ fn store_held(book: &mut [u8], k: usize, h: Held)
 
 // Another purge minute of a draft's copy: the one that DDHHMM gives.
 pub fn set_purge(book: &mut [u8], d: usize, s: usize, time: Stamp) -> Reply
-    ensures is { λ r. ⌜ paperReply r ≡ onBytes (now (book .entry)) (on d s (editing (setPurge time))) .0 ⌝ }
-    ensures left { λ _. ⌜ now (book .exit) ≡ onBytes (now (book .entry)) (on d s (editing (setPurge time))) .1 ⌝ }
+    ensures { λ r. ⌜ Does (now (book .entry)) (now (book .exit)) (on d s (editing (setPurge time))) r ⌝ }
 {
     let in_range = calendar::is_time(time);
     let verdict = copies::admit(book, d, in_range, s);
@@ -144,8 +143,7 @@ pub fn set_purge(book: &mut [u8], d: usize, s: usize, time: Stamp) -> Reply
 
 // A place added to a draft's copy.
 pub fn add(book: &mut [u8], d: usize, s: usize, p: usize) -> Reply
-    ensures is { λ r. ⌜ paperReply r ≡ onBytes (now (book .entry)) (on d s (editing (add p))) .0 ⌝ }
-    ensures left { λ _. ⌜ now (book .exit) ≡ onBytes (now (book .entry)) (on d s (editing (add p))) .1 ⌝ }
+    ensures { λ r. ⌜ Does (now (book .entry)) (now (book .exit)) (on d s (editing (add p))) r ⌝ }
 {
     let in_range = p < 1352000;
     let verdict = copies::admit(book, d, in_range, s);
@@ -171,8 +169,7 @@ pub fn add(book: &mut [u8], d: usize, s: usize, p: usize) -> Reply
 
 // A place removed from a draft's copy.
 pub fn remove(book: &mut [u8], d: usize, s: usize, p: usize) -> Reply
-    ensures is { λ r. ⌜ paperReply r ≡ onBytes (now (book .entry)) (on d s (editing (remove p))) .0 ⌝ }
-    ensures left { λ _. ⌜ now (book .exit) ≡ onBytes (now (book .entry)) (on d s (editing (remove p))) .1 ⌝ }
+    ensures { λ r. ⌜ Does (now (book .entry)) (now (book .exit)) (on d s (editing (remove p))) r ⌝ }
 {
     let in_range = p < 1352000;
     let verdict = copies::admit(book, d, in_range, s);

@@ -1,7 +1,7 @@
 use native.Mathlib.Omega.{arith}
 use Rattle.blocks.proofs.Numbers.{Bytes}
-use Rattle.copies.proofs.Ways.{refused-answer, admitting, working, load-long, load-block, load-few, absent-answers}
-use Rattle.drafts.proofs.CopyReads.{reads-count}
+use Rattle.copies.proofs.Ways.{admitting, working, load-long, load-block, load-few}
+use Rattle.drafts.proofs.CopyReads.{refused-read, absent-read, reads-count}
 use borrow.Author.Needs.{needs}
 use Rattle.drafts.proofs.read_count.Statement.{statement}
 use Rattle.drafts.proofs.read_count.Tie as tie
@@ -17,7 +17,7 @@ unfolding Bytes
 returns c =
     let l = c .before .before .before .before .before .args .book .now in
     let y : Bytes l = λ i. omega (arith, c .before .before .before .before .shared-slice-known .given i) in
-    search (refused-answer, y, needs)
+    search (refused-read, y, needs)
 
 enum-told : tie.Need-enum-told
 enum-told c = search needs
@@ -39,7 +39,7 @@ unfolding Bytes
 returns-2 c =
     let l = c .before .before .before .before .before .before .before .before .args .book .now in
     let y : Bytes l = λ i. omega (arith, c .before .before .before .before .before .before .before .shared-slice-known .given i) in
-    search (absent-answers, y, needs)
+    search (absent-read, y, needs)
 
 load-requires : tie.Need-load-requires
 unfolding Bytes

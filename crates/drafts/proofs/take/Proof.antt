@@ -1,7 +1,8 @@
 use native.Mathlib.Omega.{arith}
 use borrow.Author.Needs.{needs}
 use Rattle.blocks.proofs.Numbers.{Bytes}
-use Rattle.drafts.proofs.Takes.{take-admitted, take-long, take-sound, take-from, take-to, take-segment-from, take-segment-to, take-refused, take-again, take-full, take-does}
+use Rattle.copies.proofs.Ways.{refused-does}
+use Rattle.drafts.proofs.Takes.{take-admitted, take-long, take-sound, take-from, take-to, take-segment-from, take-segment-to, take-again, take-full, take-does}
 use Rattle.drafts.proofs.take.Statement.{statement}
 use Rattle.drafts.proofs.take.Tie as tie
 
@@ -19,7 +20,7 @@ unfolding Bytes
 returns c =
     let l = c .before .before .before .before .before .before .args .book .now in
     let y : Bytes l = λ i. omega (arith, c .before .before .before .before .before .slice-known .given i) in
-    search (take-refused, y, needs)
+    search (refused-does, y, needs)
 
 enum-told : tie.Need-enum-told
 enum-told c = search needs

@@ -1,8 +1,8 @@
 use native.Mathlib.Omega.{arith}
 use mathlib.Core.Path.{sym, _∙_}
 use Rattle.blocks.proofs.Numbers.{Bytes}
-use Rattle.copies.proofs.Ways.{refused-answer, refused-bytes, admitting, ranging, working, load-long, load-block, load-few, absent-answers, absent-keeps}
-use Rattle.edits.proofs.Ways.{place-low, held-up, add-old-answer, add-old-bytes, add-full-answer, add-full-bytes, add-new-answer, add-new-bytes}
+use Rattle.copies.proofs.Ways.{refused-does, admitting, ranging, working, load-long, load-block, load-few, absent-does}
+use Rattle.edits.proofs.Ways.{place-low, held-up, add-old, add-full, add-new}
 use borrow.Author.Needs.{needs}
 use Rattle.edits.proofs.add.Statement.{statement}
 use Rattle.edits.proofs.add.Tie as tie
@@ -21,7 +21,7 @@ unfolding Bytes
 returns c =
     let l = c .before .before .before .before .before .before .args .book .now in
     let y : Bytes l = λ i. omega (arith, c .before .before .before .before .before .slice-known .given i) in
-    (search (refused-answer, y, needs), search (refused-bytes, y, needs))
+    search (refused-does, y, needs)
 
 enum-told : tie.Need-enum-told
 enum-told c = search needs
@@ -46,7 +46,7 @@ unfolding Bytes
 returns-2 c =
     let l = c .before .before .before .before .before .before .before .before .before .before .args .book .now in
     let y : Bytes l = λ i. omega (arith, c .before .before .before .before .before .before .before .before .before .slice-known .given i) in
-    (search (absent-answers, ranging, y, needs), search (absent-keeps, ranging, y, needs))
+    search (absent-does, ranging, y, needs)
 
 load-requires : tie.Need-load-requires
 unfolding Bytes
@@ -70,10 +70,8 @@ returns-3 c =
     let l = c .before .before .before .before .before .before .before .before .before .before .before .before .before .before .before .args .book .now in
     let y : Bytes l = λ i. omega (arith, c .before .before .before .before .before .before .before .before .before .before .before .before .before .before .slice-known .given i) in
     let w = working l y _ _ _ _ (c .before .before .before .before .before .before .before .before .before .before .enum-told .given .1) (c .before .before .before .before .before .before .before .before .before .before .before .before .admit .ensures) _ (c .before .before .before .before .before .before .before .before .find-copy .ensures) _ (c .before .before .before .before .before .before .k .given .1) in
-    let r = ranging l _ _ _ _ (c .before .before .before .before .before .before .before .before .before .before .enum-told .given .1) (c .before .before .before .before .before .before .before .before .before .before .before .before .admit .ensures) in (
-      add-old-answer l _ _ _ w _ (c .before .before .before .load .ensures .1) (c .before .before .before .load .ensures .0) _ _ (c .before .before .narrow .ensures) r _ (c .before .has-place .ensures) (c .if1 .taken),
-      add-old-bytes l _ _ _ w _ (c .before .before .before .load .ensures .1) (c .before .before .before .load .ensures .0) _ _ (c .before .before .narrow .ensures) r _ (c .before .has-place .ensures) (c .if1 .taken),
-    )
+    let r = ranging l _ _ _ _ (c .before .before .before .before .before .before .before .before .before .before .enum-told .given .1) (c .before .before .before .before .before .before .before .before .before .before .before .before .admit .ensures) in
+    add-old l _ _ _ w _ (c .before .before .before .load .ensures .1) (c .before .before .before .load .ensures .0) _ _ (c .before .before .narrow .ensures) r _ (c .before .has-place .ensures) (c .if1 .taken)
 
 refused-requires-2 : tie.Need-refused-requires-2
 refused-requires-2 c κs = search needs
@@ -87,10 +85,8 @@ returns-4 c =
     let l = c .before .before .before .before .before .before .before .before .before .before .before .before .before .before .before .before .before .before .args .book .now in
     let y : Bytes l = λ i. omega (arith, c .before .before .before .before .before .before .before .before .before .before .before .before .before .before .before .before .before .slice-known .given i) in
     let w = working l y _ _ _ _ (c .before .before .before .before .before .before .before .before .before .before .before .before .before .enum-told .given .1) (c .before .before .before .before .before .before .before .before .before .before .before .before .before .before .before .admit .ensures) _ (c .before .before .before .before .before .before .before .before .before .before .before .find-copy .ensures) _ (c .before .before .before .before .before .before .before .before .before .k .given .1) in
-    let r = ranging l _ _ _ _ (c .before .before .before .before .before .before .before .before .before .before .before .before .before .enum-told .given .1) (c .before .before .before .before .before .before .before .before .before .before .before .before .before .before .before .admit .ensures) in (
-      add-full-answer l _ _ _ w _ (c .before .before .before .before .before .before .load .ensures .1) (c .before .before .before .before .before .before .load .ensures .0) _ _ (c .before .before .before .before .before .narrow .ensures) r _ (c .before .before .before .before .has-place .ensures) (c .before .before .before .if1 .left) (c .before .if2 .taken) _ (c .refused2 .ensures),
-      add-full-bytes l _ _ _ w _ (c .before .before .before .before .before .before .load .ensures .1) (c .before .before .before .before .before .before .load .ensures .0) _ _ (c .before .before .before .before .before .narrow .ensures) r _ (c .before .before .before .before .has-place .ensures) (c .before .before .before .if1 .left) (c .before .if2 .taken),
-    )
+    let r = ranging l _ _ _ _ (c .before .before .before .before .before .before .before .before .before .before .before .before .before .enum-told .given .1) (c .before .before .before .before .before .before .before .before .before .before .before .before .before .before .before .admit .ensures) in
+    add-full l _ _ _ w _ (c .before .before .before .before .before .before .load .ensures .1) (c .before .before .before .before .before .before .load .ensures .0) _ _ (c .before .before .before .before .before .narrow .ensures) r _ (c .before .before .before .before .has-place .ensures) (c .before .before .before .if1 .left) (c .before .if2 .taken) _ (c .refused2 .ensures)
 
 with-place-requires : tie.Need-with-place-requires
 unfolding Bytes
@@ -117,10 +113,8 @@ returns-5 c =
     let l = c .before .before .before .before .before .before .before .before .before .before .before .before .before .before .before .before .before .before .before .before .before .before .args .book .now in
     let y : Bytes l = λ i. omega (arith, c .before .before .before .before .before .before .before .before .before .before .before .before .before .before .before .before .before .before .before .before .before .slice-known .given i) in
     let w = working l y _ _ _ _ (c .before .before .before .before .before .before .before .before .before .before .before .before .before .before .before .before .before .enum-told .given .1) (c .before .before .before .before .before .before .before .before .before .before .before .before .before .before .before .before .before .before .before .admit .ensures) _ (c .before .before .before .before .before .before .before .before .before .before .before .before .before .before .before .find-copy .ensures) _ (c .before .before .before .before .before .before .before .before .before .before .before .before .before .k .given .1) in
-    let r = ranging l _ _ _ _ (c .before .before .before .before .before .before .before .before .before .before .before .before .before .before .before .before .before .enum-told .given .1) (c .before .before .before .before .before .before .before .before .before .before .before .before .before .before .before .before .before .before .before .admit .ensures) in (
-      add-new-answer l _ _ _ w _ (c .before .before .before .before .before .before .before .before .before .before .load .ensures .1) (c .before .before .before .before .before .before .before .before .before .before .load .ensures .0) _ _ (c .before .before .before .before .before .before .before .before .before .narrow .ensures) r _ (c .before .before .before .before .before .before .before .before .has-place .ensures) (c .before .before .before .before .before .before .before .if1 .left) (c .before .before .before .before .before .if2 .left),
-      add-new-bytes l _ _ _ w _ (c .before .before .before .before .before .before .before .before .before .before .load .ensures .1) (c .before .before .before .before .before .before .before .before .before .before .load .ensures .0) _ _ (c .before .before .before .before .before .before .before .before .before .narrow .ensures) r _ (c .before .before .before .before .before .before .before .before .has-place .ensures) (c .before .before .before .before .before .before .before .if1 .left) (c .before .before .before .before .before .if2 .left) _ (c .before .before .before .before .with-place .ensures .0) (c .before .before .before .before .with-place .ensures .1) _ (c .before .before .store-held .ensures),
-    )
+    let r = ranging l _ _ _ _ (c .before .before .before .before .before .before .before .before .before .before .before .before .before .before .before .before .before .enum-told .given .1) (c .before .before .before .before .before .before .before .before .before .before .before .before .before .before .before .before .before .before .before .admit .ensures) in
+    add-new l _ _ _ w _ (c .before .before .before .before .before .before .before .before .before .before .load .ensures .1) (c .before .before .before .before .before .before .before .before .before .before .load .ensures .0) _ _ (c .before .before .before .before .before .before .before .before .before .narrow .ensures) r _ (c .before .before .before .before .before .before .before .before .has-place .ensures) (c .before .before .before .before .before .before .before .if1 .left) (c .before .before .before .before .before .if2 .left) _ (c .before .before .before .before .with-place .ensures .0) (c .before .before .before .before .with-place .ensures .1) _ (c .before .before .store-held .ensures)
 
 pub add-spec : {M : Type 1} → statement M
 add-spec =

@@ -1,7 +1,7 @@
 use native.Mathlib.Omega.{arith}
 use Rattle.blocks.proofs.Numbers.{Bytes}
-use Rattle.copies.proofs.Ways.{refused-answer, refused-bytes, admitting, ranging, working, load-long, load-block, load-few, absent-answers, absent-keeps}
-use Rattle.edits.proofs.Ways.{place-low, held-up, remove-none-answer, remove-none-bytes, remove-only-answer, remove-only-bytes, remove-old-answer, remove-old-bytes}
+use Rattle.copies.proofs.Ways.{refused-does, admitting, ranging, working, load-long, load-block, load-few, absent-does}
+use Rattle.edits.proofs.Ways.{place-low, held-up, remove-none, remove-only, remove-old}
 use borrow.Author.Needs.{needs}
 use Rattle.edits.proofs.remove.Statement.{statement}
 use Rattle.edits.proofs.remove.Tie as tie
@@ -20,7 +20,7 @@ unfolding Bytes
 returns c =
     let l = c .before .before .before .before .before .before .args .book .now in
     let y : Bytes l = λ i. omega (arith, c .before .before .before .before .before .slice-known .given i) in
-    (search (refused-answer, y, needs), search (refused-bytes, y, needs))
+    search (refused-does, y, needs)
 
 enum-told : tie.Need-enum-told
 enum-told c = search needs
@@ -45,7 +45,7 @@ unfolding Bytes
 returns-2 c =
     let l = c .before .before .before .before .before .before .before .before .before .before .args .book .now in
     let y : Bytes l = λ i. omega (arith, c .before .before .before .before .before .before .before .before .before .slice-known .given i) in
-    (search (absent-answers, ranging, y, needs), search (absent-keeps, ranging, y, needs))
+    search (absent-does, ranging, y, needs)
 
 load-requires : tie.Need-load-requires
 unfolding Bytes
@@ -69,10 +69,8 @@ returns-3 c =
     let l = c .before .before .before .before .before .before .before .before .before .before .before .before .before .before .before .args .book .now in
     let y : Bytes l = λ i. omega (arith, c .before .before .before .before .before .before .before .before .before .before .before .before .before .before .slice-known .given i) in
     let w = working l y _ _ _ _ (c .before .before .before .before .before .before .before .before .before .before .enum-told .given .1) (c .before .before .before .before .before .before .before .before .before .before .before .before .admit .ensures) _ (c .before .before .before .before .before .before .before .before .find-copy .ensures) _ (c .before .before .before .before .before .before .k .given .1) in
-    let r = ranging l _ _ _ _ (c .before .before .before .before .before .before .before .before .before .before .enum-told .given .1) (c .before .before .before .before .before .before .before .before .before .before .before .before .admit .ensures) in (
-      remove-none-answer l _ _ _ w _ (c .before .before .before .load .ensures .1) (c .before .before .before .load .ensures .0) _ _ (c .before .before .narrow .ensures) r _ (c .before .has-place .ensures) (c .if1 .taken),
-      remove-none-bytes l _ _ _ w _ (c .before .before .before .load .ensures .1) (c .before .before .before .load .ensures .0) _ _ (c .before .before .narrow .ensures) r _ (c .before .has-place .ensures) (c .if1 .taken),
-    )
+    let r = ranging l _ _ _ _ (c .before .before .before .before .before .before .before .before .before .before .enum-told .given .1) (c .before .before .before .before .before .before .before .before .before .before .before .before .admit .ensures) in
+    remove-none l _ _ _ w _ (c .before .before .before .load .ensures .1) (c .before .before .before .load .ensures .0) _ _ (c .before .before .narrow .ensures) r _ (c .before .has-place .ensures) (c .if1 .taken)
 
 refused-requires-2 : tie.Need-refused-requires-2
 refused-requires-2 c κs = search needs
@@ -86,10 +84,8 @@ returns-4 c =
     let l = c .before .before .before .before .before .before .before .before .before .before .before .before .before .before .before .before .before .before .args .book .now in
     let y : Bytes l = λ i. omega (arith, c .before .before .before .before .before .before .before .before .before .before .before .before .before .before .before .before .before .slice-known .given i) in
     let w = working l y _ _ _ _ (c .before .before .before .before .before .before .before .before .before .before .before .before .before .enum-told .given .1) (c .before .before .before .before .before .before .before .before .before .before .before .before .before .before .before .admit .ensures) _ (c .before .before .before .before .before .before .before .before .before .before .before .find-copy .ensures) _ (c .before .before .before .before .before .before .before .before .before .k .given .1) in
-    let r = ranging l _ _ _ _ (c .before .before .before .before .before .before .before .before .before .before .before .before .before .enum-told .given .1) (c .before .before .before .before .before .before .before .before .before .before .before .before .before .before .before .admit .ensures) in (
-      remove-only-answer l _ _ _ w _ (c .before .before .before .before .before .before .load .ensures .1) (c .before .before .before .before .before .before .load .ensures .0) _ _ (c .before .before .before .before .before .narrow .ensures) r _ (c .before .before .before .before .has-place .ensures) (c .before .before .before .if1 .left) (c .before .if2 .taken) _ (c .refused2 .ensures),
-      remove-only-bytes l _ _ _ w _ (c .before .before .before .before .before .before .load .ensures .1) (c .before .before .before .before .before .before .load .ensures .0) _ _ (c .before .before .before .before .before .narrow .ensures) r _ (c .before .before .before .before .has-place .ensures) (c .before .before .before .if1 .left) (c .before .if2 .taken),
-    )
+    let r = ranging l _ _ _ _ (c .before .before .before .before .before .before .before .before .before .before .before .before .before .enum-told .given .1) (c .before .before .before .before .before .before .before .before .before .before .before .before .before .before .before .admit .ensures) in
+    remove-only l _ _ _ w _ (c .before .before .before .before .before .before .load .ensures .1) (c .before .before .before .before .before .before .load .ensures .0) _ _ (c .before .before .before .before .before .narrow .ensures) r _ (c .before .before .before .before .has-place .ensures) (c .before .before .before .if1 .left) (c .before .if2 .taken) _ (c .refused2 .ensures)
 
 without-place-requires : tie.Need-without-place-requires
 unfolding Bytes
@@ -116,10 +112,8 @@ returns-5 c =
     let l = c .before .before .before .before .before .before .before .before .before .before .before .before .before .before .before .before .before .before .before .before .before .before .args .book .now in
     let y : Bytes l = λ i. omega (arith, c .before .before .before .before .before .before .before .before .before .before .before .before .before .before .before .before .before .before .before .before .before .slice-known .given i) in
     let w = working l y _ _ _ _ (c .before .before .before .before .before .before .before .before .before .before .before .before .before .before .before .before .before .enum-told .given .1) (c .before .before .before .before .before .before .before .before .before .before .before .before .before .before .before .before .before .before .before .admit .ensures) _ (c .before .before .before .before .before .before .before .before .before .before .before .before .before .before .before .find-copy .ensures) _ (c .before .before .before .before .before .before .before .before .before .before .before .before .before .k .given .1) in
-    let r = ranging l _ _ _ _ (c .before .before .before .before .before .before .before .before .before .before .before .before .before .before .before .before .before .enum-told .given .1) (c .before .before .before .before .before .before .before .before .before .before .before .before .before .before .before .before .before .before .before .admit .ensures) in (
-      remove-old-answer l _ _ _ w _ (c .before .before .before .before .before .before .before .before .before .before .load .ensures .1) (c .before .before .before .before .before .before .before .before .before .before .load .ensures .0) _ _ (c .before .before .before .before .before .before .before .before .before .narrow .ensures) r _ (c .before .before .before .before .before .before .before .before .has-place .ensures) (c .before .before .before .before .before .before .before .if1 .left) (c .before .before .before .before .before .if2 .left),
-      remove-old-bytes l _ _ _ w _ (c .before .before .before .before .before .before .before .before .before .before .load .ensures .1) (c .before .before .before .before .before .before .before .before .before .before .load .ensures .0) _ _ (c .before .before .before .before .before .before .before .before .before .narrow .ensures) r _ (c .before .before .before .before .before .before .before .before .has-place .ensures) (c .before .before .before .before .before .before .before .if1 .left) (c .before .before .before .before .before .if2 .left) _ (c .before .before .before .before .without-place .ensures .0) (c .before .before .before .before .without-place .ensures .1) _ (c .before .before .store-held .ensures),
-    )
+    let r = ranging l _ _ _ _ (c .before .before .before .before .before .before .before .before .before .before .before .before .before .before .before .before .before .enum-told .given .1) (c .before .before .before .before .before .before .before .before .before .before .before .before .before .before .before .before .before .before .before .admit .ensures) in
+    remove-old l _ _ _ w _ (c .before .before .before .before .before .before .before .before .before .before .load .ensures .1) (c .before .before .before .before .before .before .before .before .before .before .load .ensures .0) _ _ (c .before .before .before .before .before .before .before .before .before .narrow .ensures) r _ (c .before .before .before .before .before .before .before .before .has-place .ensures) (c .before .before .before .before .before .before .before .if1 .left) (c .before .before .before .before .before .if2 .left) _ (c .before .before .before .before .without-place .ensures .0) (c .before .before .before .before .without-place .ensures .1) _ (c .before .before .store-held .ensures)
 
 pub remove-spec : {M : Type 1} → statement M
 remove-spec =

@@ -4,7 +4,7 @@ use native.Mathlib.Omega.{arith}
 use mathlib.Core.Path.{_≡_, _∙_}
 use Rattle.blocks.proofs.Numbers.{Bytes}
 use Rattle.copies.proofs.Ways.{admitting, ranging, working, load-long, load-block, load-few}
-use Rattle.edits.proofs.Ways.{tested-answer, tested-bytes, tested-absent, tested-keeps, minute-low, purge-none-answer, purge-none-bytes, purge-some-answer, purge-some-bytes}
+use Rattle.edits.proofs.Ways.{tested-does, tested-absent, minute-low, purge-none, purge-some}
 use borrow.Author.Needs.{needs}
 use Rattle.edits.proofs.set_purge.Statement.{statement}
 use Rattle.edits.proofs.set_purge.Tie as tie
@@ -26,7 +26,7 @@ unfolding Bytes
 returns c =
     let l = c .before .before .before .before .before .before .before .args .book .now in
     let y : Bytes l = λ i. omega (arith, c .before .before .before .before .before .before .slice-known .given i) in
-    (search (tested-answer, y, needs), search (tested-bytes, y, needs))
+    search (tested-does, y, needs)
 
 enum-told : tie.Need-enum-told
 enum-told c = search needs
@@ -51,7 +51,7 @@ unfolding Bytes
 returns-2 c =
     let l = c .before .before .before .before .before .before .before .before .before .before .before .args .book .now in
     let y : Bytes l = λ i. omega (arith, c .before .before .before .before .before .before .before .before .before .before .slice-known .given i) in
-    (search (tested-absent, y, needs), search (tested-keeps, y, needs))
+    search (tested-absent, y, needs)
 
 load-requires : tie.Need-load-requires
 unfolding Bytes
@@ -92,10 +92,8 @@ returns-3 c =
     let l = c .before .before .before .before .before .before .before .before .before .before .before .before .before .before .before .before .before .before .before .before .args .book .now in
     let y : Bytes l = λ i. omega (arith, c .before .before .before .before .before .before .before .before .before .before .before .before .before .before .before .before .before .before .before .slice-known .given i) in
     let w = working l y _ _ _ _ (c .before .before .before .before .before .before .before .before .before .before .before .before .before .before .enum-told .given .1) (c .before .before .before .before .before .before .before .before .before .before .before .before .before .before .before .before .admit .ensures) _ (c .before .before .before .before .before .before .before .before .before .before .before .before .find-copy .ensures) _ (c .before .before .before .before .before .before .before .before .before .before .k .given .1) in
-    let r = ranging l _ _ _ _ (c .before .before .before .before .before .before .before .before .before .before .before .before .before .before .enum-told .given .1) (c .before .before .before .before .before .before .before .before .before .before .before .before .before .before .before .before .admit .ensures) in (
-      purge-none-answer l _ _ _ w _ (c .before .before .before .before .before .before .before .load .ensures .1) (c .before .before .before .before .before .before .before .load .ensures .0) _ _ r (c .before .before .before .before .before .before .before .before .before .before .before .before .before .before .before .before .before .before .is-time .ensures) _ (c .before .before .before .before .wide .ensures ∙ c .before .before .before .before .before .number-at .ensures) _ (c .before .before .before .purge-of .ensures) (c .before .enum-told3 .given .1) _ (c .refused2 .ensures),
-      purge-none-bytes l _ _ _ w _ (c .before .before .before .before .before .before .before .load .ensures .1) (c .before .before .before .before .before .before .before .load .ensures .0) _ _ r (c .before .before .before .before .before .before .before .before .before .before .before .before .before .before .before .before .before .before .is-time .ensures) _ (c .before .before .before .before .wide .ensures ∙ c .before .before .before .before .before .number-at .ensures) _ (c .before .before .before .purge-of .ensures) (c .before .enum-told3 .given .1),
-    )
+    let r = ranging l _ _ _ _ (c .before .before .before .before .before .before .before .before .before .before .before .before .before .before .enum-told .given .1) (c .before .before .before .before .before .before .before .before .before .before .before .before .before .before .before .before .admit .ensures) in
+    purge-none l _ _ _ w _ (c .before .before .before .before .before .before .before .load .ensures .1) (c .before .before .before .before .before .before .before .load .ensures .0) _ _ r (c .before .before .before .before .before .before .before .before .before .before .before .before .before .before .before .before .before .before .is-time .ensures) _ (c .before .before .before .before .wide .ensures ∙ c .before .before .before .before .before .number-at .ensures) _ (c .before .before .before .purge-of .ensures) (c .before .enum-told3 .given .1) _ (c .refused2 .ensures)
 
 narrow-requires : tie.Need-narrow-requires
 narrow-requires c κs = search (minute-low, needs)
@@ -117,10 +115,8 @@ returns-4 c =
     let l = c .before .before .before .before .before .before .before .before .before .before .before .before .before .before .before .before .before .before .before .before .before .before .before .before .before .before .args .book .now in
     let y : Bytes l = λ i. omega (arith, c .before .before .before .before .before .before .before .before .before .before .before .before .before .before .before .before .before .before .before .before .before .before .before .before .before .slice-known .given i) in
     let w = working l y _ _ _ _ (c .before .before .before .before .before .before .before .before .before .before .before .before .before .before .before .before .before .before .before .before .enum-told .given .1) (c .before .before .before .before .before .before .before .before .before .before .before .before .before .before .before .before .before .before .before .before .before .before .admit .ensures) _ (c .before .before .before .before .before .before .before .before .before .before .before .before .before .before .before .before .before .before .find-copy .ensures) _ (c .before .before .before .before .before .before .before .before .before .before .before .before .before .before .before .before .k .given .1) in
-    let r = ranging l _ _ _ _ (c .before .before .before .before .before .before .before .before .before .before .before .before .before .before .before .before .before .before .before .before .enum-told .given .1) (c .before .before .before .before .before .before .before .before .before .before .before .before .before .before .before .before .before .before .before .before .before .before .admit .ensures) in (
-      purge-some-answer l _ _ _ w _ (c .before .before .before .before .before .before .before .before .before .before .before .before .before .load .ensures .1) (c .before .before .before .before .before .before .before .before .before .before .before .before .before .load .ensures .0) _ _ r (c .before .before .before .before .before .before .before .before .before .before .before .before .before .before .before .before .before .before .before .before .before .before .before .before .is-time .ensures) _ (c .before .before .before .before .before .before .before .before .before .before .wide .ensures ∙ c .before .before .before .before .before .before .before .before .before .before .before .number-at .ensures) _ (c .before .before .before .before .before .before .before .before .before .purge-of .ensures) _ (c .before .before .before .before .before .before .before .minute .given .1),
-      purge-some-bytes l _ _ _ w _ (c .before .before .before .before .before .before .before .before .before .before .before .before .before .load .ensures .1) (c .before .before .before .before .before .before .before .before .before .before .before .before .before .load .ensures .0) _ _ r (c .before .before .before .before .before .before .before .before .before .before .before .before .before .before .before .before .before .before .before .before .before .before .before .before .is-time .ensures) _ (c .before .before .before .before .before .before .before .before .before .before .wide .ensures ∙ c .before .before .before .before .before .before .before .before .before .before .before .number-at .ensures) _ (c .before .before .before .before .before .before .before .before .before .purge-of .ensures) _ (c .before .before .before .before .before .before .before .minute .given .1) _ (c .before .before .before .before .before .narrow .ensures) _ (c .before .before .store-held .ensures),
-    )
+    let r = ranging l _ _ _ _ (c .before .before .before .before .before .before .before .before .before .before .before .before .before .before .before .before .before .before .before .before .enum-told .given .1) (c .before .before .before .before .before .before .before .before .before .before .before .before .before .before .before .before .before .before .before .before .before .before .admit .ensures) in
+    purge-some l _ _ _ w _ (c .before .before .before .before .before .before .before .before .before .before .before .before .before .load .ensures .1) (c .before .before .before .before .before .before .before .before .before .before .before .before .before .load .ensures .0) _ _ r (c .before .before .before .before .before .before .before .before .before .before .before .before .before .before .before .before .before .before .before .before .before .before .before .before .is-time .ensures) _ (c .before .before .before .before .before .before .before .before .before .before .wide .ensures ∙ c .before .before .before .before .before .before .before .before .before .before .before .number-at .ensures) _ (c .before .before .before .before .before .before .before .before .before .purge-of .ensures) _ (c .before .before .before .before .before .before .before .minute .given .1) _ (c .before .before .before .before .before .narrow .ensures) _ (c .before .before .store-held .ensures)
 
 pub set-purge-spec : {M : Type 1} → statement M
 set-purge-spec =

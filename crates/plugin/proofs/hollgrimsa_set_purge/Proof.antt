@@ -1,4 +1,4 @@
-use Rattle.plugin.proofs.Ways.{says-packed}
+use Rattle.plugin.proofs.Ways.{does-packed, does-left}
 use borrow.Author.Needs.{needs}
 use Rattle.plugin.proofs.hollgrimsa_set_purge.Statement.{statement}
 use Rattle.plugin.proofs.hollgrimsa_set_purge.Tie as tie
@@ -9,4 +9,4 @@ hollgrimsa-set-purge-spec =
     (λ c κs. search needs)
     (λ c κs. search needs)
     (λ c. search needs)
-    (λ c. (search (says-packed, needs), search needs)))
+    (λ c. (search (does-packed, needs), search (does-left, needs))))
