@@ -1,7 +1,7 @@
 -- What a commit finds in the bytes of a draft are its changes. Assumes nothing.
 use mathlib.Core.Path.{_≡_, refl, sym, ap, ap₂, _∙_, subst}
 use mathlib.Core.Logic.{_≢_}
-use mathlib.Core.Bool.{Bool, true, false, not}
+use mathlib.Core.Bool.{Bool, true, false, cond, not}
 use mathlib.Core.List.{List, [], _∷_}
 use mathlib.Core.Option.{Option, none, some}
 use Prim.Native.Nat.{ℕ, zero, suc, _+_, _*_, _≤_, _<_}
@@ -9,7 +9,7 @@ use native.Mathlib.Omega.{arith}
 use lib.ListN.{length, getD, getElem?}
 use lib.Dec.{eqb, ltb}
 use borrow.Author.Tests.{eq-eqb, ne-eqb, eqb-true, lt-ltb, le-ltb}
-use Rattle.laws.proofs.Tests.{by, impossible, and-left, and-right, same-test}
+use Rattle.laws.proofs.Tests.{by, by-order, apart, impossible, and-left, and-right, same-test}
 use Rattle.laws.proofs.Lookups.{get-some}
 use Rattle.laws.proofs.Lists.{all-get, all-head, all-tail}
 use Rattle.codes.specs.Block.{Content}
@@ -26,7 +26,8 @@ use Rattle.layout.proofs.Stands.{part-copy}
 use Rattle.layout.proofs.ForthParts.{blank}
 use Rattle.layout.proofs.ForthLies.{lies-draft, lies-segment, lies-copy}
 use Rattle.history.specs.declared.Found.{Found}
-use Rattle.history.specs.Changing.{differing, found, picked, changesIn, Stands, Finds}
+use Rattle.history.specs.declared.Found.the-variants as found
+use Rattle.history.specs.Changing.{Placing, Placings, Placed, differing, picked, changesIn, Stands, FindsOne, FindsTwo, Finds}
 
 -- ---- the test of contents
 same-self : (c : Content) → same (some c) c ≡ true
@@ -82,58 +83,38 @@ not-same t u e f = e ∙ ap not f
 not-other : (t u : Bool) → t ≡ not u → u ≡ false → t ≡ true
 not-other t u e f = e ∙ ap not f
 
--- the copies that a record tells
-abbrev pub FindsIn : Book → Found → List Copy → Type 0
-FindsIn b r cs = Finds b (r .first) (r .from) (r .second) (r .other) cs
-
-finds-nothing : (b : Book) (i j : ℕ) → Finds b 0 i 0 j []
-finds-nothing b i j = record { none = λ e. refl; single = λ h e. impossible (omega arith); both = λ h g. impossible (omega arith) }
-
-finds-single : (b : Book) (q : Copy) (i j : ℕ) → Stands b (q .segment) i (q .held) → Finds b (q .segment) i 0 j (q ∷ [])
-finds-single b q i j st =
-    let h = st .one in
-    record {
-      none = λ e. impossible (omega arith);
-      single = λ h e. record { content = q .held; stands = st; are = refl };
-      both = λ h g. impossible (omega arith);
-    }
+finds-single : (b : Book) (q : Copy) (i : ℕ) → Stands b (q .segment) i (q .held) → FindsOne b (q .segment) i (q ∷ [])
+finds-single b q i st = record { content = q .held; stands = st; are = refl }
 
 finds-both : (b : Book) (q p : Copy) (i j : ℕ) → Stands b (q .segment) i (q .held) → Stands b (p .segment) j (p .held)
-    → Finds b (q .segment) i (p .segment) j (q ∷ p ∷ [])
-finds-both b q p i j st st2 =
-    let h = st .one in
-    let g = st2 .one in
-    record {
-      none = λ e. impossible (omega arith);
-      single = λ h e. impossible (omega arith);
-      both = λ h g. record { content = q .held; content2 = p .held; stands = st; stands2 = st2; are = refl };
-    }
+    → FindsTwo b (q .segment) i (p .segment) j (q ∷ p ∷ [])
+finds-both b q p i j st st2 = record { content = q .held; content2 = p .held; stands = st; stands2 = st2; are = refl }
 
 -- a draft without copies, with one, with two
 module _ (b : Book) where
-  pub finds-0 : (s t : Bool) (x i y j : ℕ) → s ≡ false → t ≡ false → FindsIn b (picked s t x i y j) (changes (b .segments) [])
+  pub finds-0 : (s t : Bool) (x i y j : ℕ) → s ≡ false → t ≡ false → Finds b (picked s t x i y j) (changes (b .segments) [])
   unfolding picked changes
-  finds-0 s t x i y j e f = rw (e, f) (finds-nothing b i j)
+  finds-0 s t x i y j e f = rw (e, f) refl
 
   pub finds-1 : (q : Copy) (s t : Bool) (i y j : ℕ) → s ≡ not (same (at (b .segments) (q .segment)) (q .held)) → t ≡ false → Stands b (q .segment) i (q .held)
-      → FindsIn b (picked s t (q .segment) i y j) (changes (b .segments) (q ∷ []))
+      → Finds b (picked s t (q .segment) i y j) (changes (b .segments) (q ∷ []))
   unfolding picked changes insertCopy
   finds-1 q s t i y j e f st =
       by (same (at (b .segments) (q .segment)) (q .held))
-      (λ h. rw (not-same s (same (at (b .segments) (q .segment)) (q .held)) e h, f, h) (finds-nothing b i j))
-      (λ h. rw (not-other s (same (at (b .segments) (q .segment)) (q .held)) e h, f, h) (finds-single b q i j st))
+      (λ h. rw (not-same s (same (at (b .segments) (q .segment)) (q .held)) e h, f, h) refl)
+      (λ h. rw (not-other s (same (at (b .segments) (q .segment)) (q .held)) e h, f, h) (finds-single b q i st))
 
   pub finds-2 : (q p : Copy) (s t : Bool) (i j : ℕ) → s ≡ not (same (at (b .segments) (q .segment)) (q .held)) → t ≡ not (same (at (b .segments) (p .segment)) (p .held))
       → Stands b (q .segment) i (q .held) → Stands b (p .segment) j (p .held)
-      → FindsIn b (picked s t (q .segment) i (p .segment) j) (changes (b .segments) (q ∷ p ∷ []))
+      → Finds b (picked s t (q .segment) i (p .segment) j) (changes (b .segments) (q ∷ p ∷ []))
   unfolding picked changes insertCopy
   finds-2 q p s t i j e f st st2 =
       by (same (at (b .segments) (q .segment)) (q .held))
       (λ h. by (same (at (b .segments) (p .segment)) (p .held))
-      (λ g. rw (not-same s (same (at (b .segments) (q .segment)) (q .held)) e h, not-same t (same (at (b .segments) (p .segment)) (p .held)) f g, h, g) (finds-nothing b i j))
-      (λ g. rw (not-same s (same (at (b .segments) (q .segment)) (q .held)) e h, not-other t (same (at (b .segments) (p .segment)) (p .held)) f g, h, g) (finds-single b p j i st2)))
+      (λ g. rw (not-same s (same (at (b .segments) (q .segment)) (q .held)) e h, not-same t (same (at (b .segments) (p .segment)) (p .held)) f g, h, g) refl)
+      (λ g. rw (not-same s (same (at (b .segments) (q .segment)) (q .held)) e h, not-other t (same (at (b .segments) (p .segment)) (p .held)) f g, h, g) (finds-single b p j st2)))
       (λ h. by (same (at (b .segments) (p .segment)) (p .held))
-      (λ g. rw (not-other s (same (at (b .segments) (q .segment)) (q .held)) e h, not-same t (same (at (b .segments) (p .segment)) (p .held)) f g, h, g) (finds-single b q i j st))
+      (λ g. rw (not-other s (same (at (b .segments) (q .segment)) (q .held)) e h, not-same t (same (at (b .segments) (p .segment)) (p .held)) f g, h, g) (finds-single b q i st))
       (λ g. by (ltb (q .segment) (p .segment))
       (λ o. rw (not-other s (same (at (b .segments) (q .segment)) (q .held)) e h, not-other t (same (at (b .segments) (p .segment)) (p .held)) f g, h, g, o) (finds-both b q p i j st st2))
       (λ o. rw (not-other s (same (at (b .segments) (q .segment)) (q .held)) e h, not-other t (same (at (b .segments) (p .segment)) (p .held)) f g, h, g, o) (finds-both b p q j i st2 st))))
@@ -174,7 +155,7 @@ module _ (l : List ℕ) (b : Book) (lies : Lies l b) (sound : Sound b) (d : ℕ)
 
 -- the changes of its copies
 pub finds-copies : (l : List ℕ) (b : Book) → Lies l b → Sound b → (d : ℕ) → d < 4 → (ks : List Copy) → draftAt (b .drafts) (suc d) ≡ working ks false
-    → FineTaken (b .issue) (length (b .segments)) ks false → FindsIn b (changesIn l (suc d)) (changes (b .segments) ks)
+    → FineTaken (b .issue) (length (b .segments)) ks false → Finds b (changesIn l (suc d)) (changes (b .segments) ks)
 unfolding changesIn
 finds-copies l b lies sound d high [] isOpen fine =
     let x : ℕ = getD l (5 + 4 * suc d) 0 in
@@ -187,7 +168,7 @@ finds-copies l b lies sound d high (q ∷ []) isOpen fine =
     let i : ℕ = 7 + 2 * suc d in
     let j : ℕ = 8 + 2 * suc d in
     let f = all-head (fine .copies) in
-    subst (λ (x : ℕ). FindsIn b (picked (differing l x i) (differing l y j) x i y j) (changes (b .segments) (q ∷ [])))
+    subst (λ (x : ℕ). Finds b (picked (differing l x i) (differing l y j) x i y j) (changes (b .segments) (q ∷ [])))
     (sym (first-is l b lies sound d high (q ∷ []) isOpen))
     (finds-1 b q (differing l (q .segment) i) (differing l y j) i y j
     (says-is l b lies sound d high (q ∷ []) isOpen q i 0 (omega arith) (omega arith) refl f)
@@ -198,9 +179,9 @@ finds-copies l b lies sound d high (q ∷ p ∷ []) isOpen fine =
     let j : ℕ = 8 + 2 * suc d in
     let f = all-head (fine .copies) in
     let g = all-head (all-tail (fine .copies)) in
-    subst (λ (x : ℕ). FindsIn b (picked (differing l x i) (differing l (getD l (6 + 4 * suc d) 0) j) x i (getD l (6 + 4 * suc d) 0) j) (changes (b .segments) (q ∷ p ∷ [])))
+    subst (λ (x : ℕ). Finds b (picked (differing l x i) (differing l (getD l (6 + 4 * suc d) 0) j) x i (getD l (6 + 4 * suc d) 0) j) (changes (b .segments) (q ∷ p ∷ [])))
     (sym (first-is l b lies sound d high (q ∷ p ∷ []) isOpen))
-    (subst (λ (y : ℕ). FindsIn b (picked (differing l (q .segment) i) (differing l y j) (q .segment) i y j) (changes (b .segments) (q ∷ p ∷ [])))
+    (subst (λ (y : ℕ). Finds b (picked (differing l (q .segment) i) (differing l y j) (q .segment) i y j) (changes (b .segments) (q ∷ p ∷ [])))
     (sym (second-is l b lies sound d high (q ∷ p ∷ []) isOpen))
     (finds-2 b q p (differing l (q .segment) i) (differing l (p .segment) j) i j
     (says-is l b lies sound d high (q ∷ p ∷ []) isOpen q i 0 (omega arith) (omega arith) refl f)
@@ -220,25 +201,56 @@ differing-zero l s k e = sym (differing-none l s k e)
 
 -- the choice by two tests
 module _ (s t : Bool) (x i y j : ℕ) where
-  pub pick-up : s ≡ true → t ≡ true → x < y → found x i y j ≡ picked s t x i y j
+  pub pick-up : s ≡ true → t ≡ true → x < y → found.Two x i y j ≡ picked s t x i y j
   unfolding picked
   pick-up e f h = rw (e, f, lt-ltb x y h)
 
-  pub pick-down : s ≡ true → t ≡ true → y ≤ x → found y j x i ≡ picked s t x i y j
+  pub pick-down : s ≡ true → t ≡ true → y ≤ x → found.Two y j x i ≡ picked s t x i y j
   unfolding picked
   pick-down e f h = rw (e, f, le-ltb x y h)
 
-  pub pick-first : s ≡ true → t ≡ false → found x i 0 j ≡ picked s t x i y j
+  pub pick-first : s ≡ true → t ≡ false → found.One x i ≡ picked s t x i y j
   unfolding picked
   pick-first e f = rw (e, f)
 
-  pub pick-second : s ≡ false → t ≡ true → found y j 0 i ≡ picked s t x i y j
+  pub pick-second : s ≡ false → t ≡ true → found.One y j ≡ picked s t x i y j
   unfolding picked
   pick-second e f = rw (e, f)
 
-  pub pick-none : s ≡ false → t ≡ false → found 0 i 0 j ≡ picked s t x i y j
+  pub pick-none : s ≡ false → t ≡ false → found.Nothing ≡ picked s t x i y j
   unfolding picked
   pick-none e f = rw (e, f)
+
+-- what is picked are segments, with the blocks of copies
+picked-placed : (end : ℕ) (s t : Bool) (x i y j : ℕ) → (s ≡ true → Placing end x i) → (t ≡ true → Placing end y j) → Placings end (picked s t x i y j)
+unfolding picked
+picked-placed end true true x i y j p q =
+    by (ltb x y)
+    (λ o. subst (λ (u : Bool). Placings end (cond u (found.Two x i y j) (found.Two y j x i))) (sym o) (p refl, q refl))
+    (λ o. subst (λ (u : Bool). Placings end (cond u (found.Two x i y j) (found.Two y j x i))) (sym o) (q refl, p refl))
+picked-placed end true false x i y j p q = p refl
+picked-placed end false true x i y j p q = q refl
+picked-placed end false false x i y j p q = tt
+
+placing : (l : List ℕ) (s k : ℕ) → s ≤ 8 → 9 ≤ k → k < 17 → differing l s k ≡ true → Placing 17 s k
+placing l s k eight low high e =
+    record {
+      one = by-order s 1 (λ h. apart (let z = sym (differing-none l s k (omega arith)) ∙ e in cc)) (λ h. h);
+      eight = eight;
+      low = low;
+      high = high;
+    }
+
+pub changes-placed : (l : List ℕ) (d : ℕ) → 1 ≤ d → d ≤ 4 → getD l (5 + 4 * d) 0 ≤ 8 → getD l (6 + 4 * d) 0 ≤ 8 → Placed 17 (changesIn l d)
+unfolding changesIn
+changes-placed l d one four first second =
+    let x : ℕ = getD l (5 + 4 * d) 0 in
+    let y : ℕ = getD l (6 + 4 * d) 0 in
+    record {
+      each =
+          picked-placed 17 (differing l x (7 + 2 * d)) (differing l y (8 + 2 * d)) x (7 + 2 * d) y (8 + 2 * d)
+          (placing l x (7 + 2 * d) first (omega arith) (omega arith)) (placing l y (8 + 2 * d) second (omega arith) (omega arith));
+    }
 
 -- all of a draft
 pub changes-are : (l : List ℕ) (d x y : ℕ) (s t : Bool) (r : Found) → x ≡ getD l (5 + 4 * d) 0 → y ≡ getD l (6 + 4 * d) 0 → s ≡ differing l x (7 + 2 * d)

@@ -7,6 +7,7 @@ use Prim.Native.Nat.{ℕ, zero, suc, _+_, _*_, _≤_, _<_}
 use native.Mathlib.Omega.{arith}
 use lib.ListN.{length, getD}
 use lib.Dec.{eqb}
+use borrow.Author.Tests.{eq-eqb, ne-eqb}
 use Rattle.laws.proofs.Tests.{impossible}
 use Rattle.laws.proofs.Lookups.{get-none}
 use Rattle.refusal.specs.Numbers.{noDraft, staleDraft}
@@ -30,8 +31,8 @@ use Rattle.layout.proofs.SoundBack.{sound-book}
 use Rattle.layout.proofs.Rules.{does-short, does-unsound, does-nothing, does-step}
 use Rattle.keeping.proofs.Parts.{draft-is}
 use Rattle.history.specs.declared.Found.{Found}
-use Rattle.history.specs.Changing.{changesIn, Leaves}
-use Rattle.history.proofs.CommitFound.{FindsIn, finds-copies}
+use Rattle.history.specs.Changing.{Placed, changesIn, Finds, Leaves}
+use Rattle.history.proofs.CommitFound.{finds-copies, changes-placed}
 
 -- a refusal as the code gives it
 abbrev pub Refuses : Reply → ℕ → Type 0
@@ -107,6 +108,9 @@ second-low l d e h g = second-most (bytes-say l e d h g) (sound-parts l e .eight
 pub steps-low : (l : List ℕ) → isSound l ≡ true → getD l 24 0 ≤ 16
 steps-low l e = sound-parts l e .sixteen
 
+pub found-placed : (l : List ℕ) (d : ℕ) (f : Found) → isSound l ≡ true → 1 ≤ d → d ≤ 4 → f ≡ changesIn l d → Placed 17 f
+found-placed l d f e h g q = subst (Placed 17) (sym q) (changes-placed l d h g (first-low l d e h g) (second-low l d e h g))
+
 -- the copies of an open draft
 copiesIn : List ℕ → ℕ → List Copy
 copiesIn l d = copiesAt l (getD l (9 + 4 * d) 0) (getD l (10 + 4 * d) 0) (9 + 2 * d)
@@ -142,12 +146,12 @@ module _ (l : List ℕ) (d : ℕ) (r : Reply) (bytes : Bytes l) (long : length l
 
 -- a stale draft
 pub commit-stale : (l : List ℕ) (d : ℕ) (r : Reply) → Bytes l → length l ≡ bookLength → isSound l ≡ true → 1 ≤ d → d ≤ 4
-    → (o s : ℕ) → o ≡ getD l (4 + 4 * d) 0 → o ≢ 0 → s ≡ getD l (7 + 4 * d) 0 → eqb s 1 ≡ true → Refuses r 21 → Does l l (commit d) r
+    → (o s : ℕ) → o ≡ getD l (4 + 4 * d) 0 → o ≢ 0 → s ≡ getD l (7 + 4 * d) 0 → s ≡ 1 → Refuses r 21 → Does l l (commit d) r
 commit-stale l zero r bytes long sound h g o s e f a b p = impossible (omega arith)
 commit-stale l (suc d) r bytes long sound h g o s e f a b p =
     does-nothing l (commit (suc d)) r bytes long sound (refused staleDraft)
     (step-stale (bookOf l) (suc d) (copiesIn l d)
-    (draft-working l sound d (omega arith) (λ z. f (e ∙ z)) true (ap (λ (x : ℕ). eqb x 1) (sym a) ∙ b)))
+    (draft-working l sound d (omega arith) (λ z. f (e ∙ z)) true (eq-eqb (getD l (7 + 4 * suc d) 0) 1 (sym a ∙ b))))
     (ap paperReply p)
 
 -- ---- the commit
@@ -159,7 +163,7 @@ taken-fine {issue} {n} {x} ks f e = inside (subst (FineDraft issue n) e f)
 
 -- what was found in the bytes is what changed, and it is committed
 abbrev pub CommitsFound : List ℕ → List ℕ → ℕ → Found → Changed → Type 0
-CommitsFound l m d f c = (b : Book) → Lies l b → Sound b → (cs : List Copy) → FindsIn b f cs → Leaves c m b d cs
+CommitsFound l m d f c = (b : Book) → Lies l b → Sound b → (cs : List Copy) → Finds b f cs → Leaves c m b d cs
 
 fresh-done : (l m : List ℕ) (d : ℕ) (f : Found) (c : Changed) → Bytes l → length l ≡ bookLength → isSound l ≡ true → d < 4 → f ≡ changesIn l (suc d)
     → (ks : List Copy) → draftAt (bookOf l .drafts) (suc d) ≡ working ks false → CommitsFound l m (suc d) f c → Does l m (commit (suc d)) (reply.Segments c)
@@ -170,15 +174,15 @@ fresh-done l m d f c bytes long sound h e ks w p =
     let fine : FineTaken (b .issue) (length (b .segments)) ks false =
     taken-fine ks (draft-is (FineDraft (b .issue) (length (b .segments))) (b .drafts) (suc d) closed-fine (fit .drafts)) w in
     let cs : List Copy = changes (b .segments) ks in
-    let finds : FindsIn b f cs = subst (λ (x : Found). FindsIn b x cs) (sym e) (finds-copies l b lies fit d h ks w fine) in
+    let finds : Finds b f cs = subst (λ (x : Found). Finds b x cs) (sym e) (finds-copies l b lies fit d h ks w fine) in
     let left : Leaves c m b (suc d) cs = p b lies fit cs finds in
     does-step l m (commit (suc d)) (reply.Segments c) long sound (commits b (suc d) (working ks false)) (step-fresh b (suc d) ks w)
     (ap (λ (ns : List ℕ). ok (changed ns)) (left .says)) (left .left)
 
 pub commit-done : (l m : List ℕ) (d : ℕ) (f : Found) (c : Changed) → Bytes l → length l ≡ bookLength → isSound l ≡ true → 1 ≤ d → d ≤ 4
-    → (o s : ℕ) → o ≡ getD l (4 + 4 * d) 0 → o ≢ 0 → s ≡ getD l (7 + 4 * d) 0 → eqb s 1 ≡ false → f ≡ changesIn l d → CommitsFound l m d f c
+    → (o s : ℕ) → o ≡ getD l (4 + 4 * d) 0 → o ≢ 0 → s ≡ getD l (7 + 4 * d) 0 → s ≢ 1 → f ≡ changesIn l d → CommitsFound l m d f c
     → Does l m (commit d) (reply.Segments c)
 commit-done l m zero f c bytes long sound h g o s a b e k q p = impossible (omega arith)
 commit-done l m (suc d) f c bytes long sound h g o s a b e k q p =
     fresh-done l m d f c bytes long sound (omega arith) q (copiesIn l d)
-    (draft-working l sound d (omega arith) (λ z. b (a ∙ z)) false (ap (λ (x : ℕ). eqb x 1) (sym e) ∙ k)) p
+    (draft-working l sound d (omega arith) (λ z. b (a ∙ z)) false (ne-eqb (getD l (7 + 4 * suc d) 0) 1 (λ z. k (e ∙ z)))) p

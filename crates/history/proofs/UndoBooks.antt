@@ -1,5 +1,5 @@
 -- What undo leaves, move by move. Assumes nothing.
-use mathlib.Core.Path.{_≡_, sym, ap, _∙_}
+use mathlib.Core.Path.{_≡_, sym, ap, subst, _∙_}
 use mathlib.Core.Bool.{true}
 use mathlib.Core.List.{List}
 use mathlib.Core.Option.{some}
@@ -25,10 +25,11 @@ use Rattle.layout.proofs.Said.{step-past}
 use Rattle.layout.proofs.Rules.{does-step, does-nothing}
 use Rattle.moves.specs.Undo.{withKept}
 use Rattle.moves.proofs.StepsLies.{lies-count}
-use Rattle.history.specs.Changing.{named, replaced}
+use Rattle.history.specs.Changing.{changedOf, stepIn, Finds, replaced, PutsBack}
+use Rattle.history.specs.declared.Found.{Found}
 use Rattle.history.specs.LastStep.{LastStep}
-use Rattle.history.proofs.Stores.{Replaces}
-use Rattle.history.proofs.UndoSteps.{step-count, newest-is, step-finds, step-numbers}
+use Rattle.history.proofs.Stores.{Replaces, finds-numbers}
+use Rattle.history.proofs.UndoSteps.{step-count, newest-is, step-finds}
 
 -- ---- what the moves say
 abbrev pub Pops : List ℕ → List ℕ → Type 0
@@ -38,31 +39,38 @@ abbrev pub Seals : List ℕ → List ℕ → Type 0
 Seals l m = (b : Book) → Lies l b → m ≡ bytesOf b
 
 -- ---- the blocks go back
-module _ (l : List ℕ) (r first second : ℕ) (y : Bytes l) (s : LastStep l r first second) where
+module _ (l : List ℕ) (r : ℕ) (y : Bytes l) (s : LastStep l r) (f : Found) (is : f ≡ stepIn l r) where
   abbrev book : Book
   book = bookOf l
 
   abbrev cs : List Copy
   cs = stepOf l r
 
+  finds : Finds book f cs
+  finds = subst (λ (g : Found). Finds book g cs) (sym is) (step-finds l r s)
+
   -- and drafts that took the segments turn stale
-  pub back-put : (m : List ℕ) → Replaces l m first (17 + 2 * r) second (18 + 2 * r) → Lies m (replaced book cs)
-  back-put m puts =
-      puts book (sound-lies l y (s .sound)) (book .issue) (length (book .segments)) (sound-book l y (s .sound) .drafts) cs (step-finds l r first second s)
+  back-put : (m : List ℕ) → Replaces l m f → Lies m (replaced book cs)
+  back-put m puts = puts book (sound-lies l y (s .sound)) (book .issue) (length (book .segments)) (sound-book l y (s .sound) .drafts) cs finds
 
   -- ---- the step goes
-  pub back-count : (m : List ℕ) → Replaces l m first (17 + 2 * r) second (18 + 2 * r) → getD m 24 0 ≡ r + 1
-  back-count m puts = lies-count m (replaced book cs) (back-put m puts) ∙ step-count l r first second s
+  pub back-count : (m : List ℕ) → Replaces l m f → getD m 24 0 ≡ r + 1
+  back-count m puts = lies-count m (replaced book cs) (back-put m puts) ∙ step-count l r s
 
-  pub step-gone : (m m1 m2 : List ℕ) → Replaces l m first (17 + 2 * r) second (18 + 2 * r) → Pops m m1 → Seals m1 m2 → m2 ≡ bytesOf (undone book cs)
-  step-gone m m1 m2 puts pops seals = seals (undone book cs) (pops (replaced book cs) (back-put m puts) (omega (arith, step-count l r first second s)))
+  pub step-gone : (m m1 m2 : List ℕ) (c : Changed) → Replaces l m f → Pops m m1 → Seals m1 m2 → c ≡ changedOf f → PutsBack c m2 book cs
+  step-gone m m1 m2 c puts pops seals says =
+      record {
+        says = ap segmentsOf says ∙ sym (finds-numbers book f cs finds);
+        left = seals (undone book cs) (pops (replaced book cs) (back-put m puts) (omega (arith, step-count l r s)));
+      }
 
-  -- ---- the call
-  pub undo-does : (m : List ℕ) (c : Changed) → length l ≡ bookLength → m ≡ bytesOf (undone book cs) → segmentsOf c ≡ named first second → Does l m undo (reply.Segments c)
-  unfolding step
-  undo-does m c long left answer =
-      does-step l m undo (reply.Segments c) long (s .sound) (undoes book (some cs)) (ap (undoes book) (newest-is l r first second s))
-      (ap (λ (ns : List ℕ). ok (changed ns)) (answer ∙ sym (step-numbers l r first second s))) left
+-- ---- the call
+pub undo-does : (l : List ℕ) (r : ℕ) → LastStep l r → (m : List ℕ) (c : Changed) → length l ≡ bookLength → PutsBack c m (bookOf l) (stepOf l r)
+    → Does l m undo (reply.Segments c)
+unfolding step
+undo-does l r s m c long back =
+    does-step l m undo (reply.Segments c) long (s .sound) (undoes (bookOf l) (some (stepOf l r))) (ap (undoes (bookOf l)) (newest-is l r s))
+    (ap (λ (ns : List ℕ). ok (changed ns)) (back .says)) (back .left)
 
 -- ---- no step
 pub undo-none : (l : List ℕ) (a : Reply) → Bytes l → length l ≡ bookLength → isSound l ≡ true → getD l 24 0 ≡ 0 → paperReply a ≡ refused noStep → Does l l undo a

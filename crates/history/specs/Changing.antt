@@ -1,5 +1,5 @@
--- What a commit finds in a draft's bytes, and the books that commit and undo go through.
-use Prim.Native.Nat.{ℕ, _+_, _*_, _≤_}
+-- Serves the code: what a commit and an undo find in a book's bytes, and the books that they go through.
+use Prim.Native.Nat.{ℕ, _+_, _*_, _≤_, _<_}
 use mathlib.Core.Path.{_≡_}
 use mathlib.Core.Bool.{Bool, true, false, cond, not}
 use mathlib.Core.List.{List, [], _∷_, map}
@@ -9,36 +9,58 @@ use lib.Dec.{eqb, ltb}
 use Rattle.codes.specs.Block.{Content}
 use Rattle.blocks.specs.Block.{blockOf, sameList}
 use Rattle.steps.specs.Book.{Copy, Book}
-use Rattle.steps.specs.Calls.{staled, stored, numbers, committed}
+use Rattle.steps.specs.Calls.{staled, stored, numbers, committed, undone}
 use Rattle.layout.specs.Layout.{bytesOf, partOf, heldIn}
 use Rattle.layout.specs.Rule.{segmentsOf}
 use Rattle.layout.specs.declared.Changed.{Changed}
+use Rattle.layout.specs.declared.Changed.the-variants.{Nothing, One, Two}
 use Rattle.history.specs.declared.Found.{Found}
+use Rattle.history.specs.declared.Found.the-variants as found
+
+-- ---- what was found: segments, each with a block
+abbrev pub changedOf : Found → Changed
+changedOf found.Nothing = Nothing
+changedOf (found.One s from) = One s
+changedOf (found.Two s from t other) = Two s t
+
+-- one of eight segments, and a block of a draft or a step, below block `end`
+pub record Placing (end s from : ℕ) : Type 0 where
+  pub one : 1 ≤ s
+  pub eight : s ≤ 8
+  pub low : 9 ≤ from
+  pub high : from < end
+
+abbrev pub Placings : ℕ → Found → Type 0
+Placings end found.Nothing = Unit
+Placings end (found.One s from) = Placing end s from
+Placings end (found.Two s from t other) = Placing end s from × Placing end t other
+
+pub record Placed (end : ℕ) (f : Found) : Type 0 where
+  pub each : Placings end f
 
 -- ---- in bytes
--- one segment, and a second one if it is not 0
-abbrev pub named : ℕ → ℕ → List ℕ
-named first second = first ∷ cond (eqb second 0) [] (second ∷ [])
-
--- is there a segment s, not 0, whose copy in block k differs from it?
+-- does the copy in block k differ from segment s? Byte 0 names no segment.
 unfoldable pub differing : List ℕ → ℕ → ℕ → Bool
 differing l s k = cond (eqb s 0) false (not (sameList (blockOf s l) (blockOf k l)))
 
-abbrev pub found : ℕ → ℕ → ℕ → ℕ → Found
-found first from second other = record { first = first; from = from; second = second; other = other }
-
--- of segments x and y, with copies in blocks i and j, those that changed, ascending; 0 for none
+-- of segments x and y, with copies in blocks i and j, those that changed, ascending
 unfoldable pub picked : Bool → Bool → ℕ → ℕ → ℕ → ℕ → Found
-picked true true x i y j = cond (ltb x y) (found x i y j) (found y j x i)
-picked true false x i y j = found x i 0 j
-picked false true x i y j = found y j 0 i
-picked false false x i y j = found 0 i 0 j
+picked true true x i y j = cond (ltb x y) (found.Two x i y j) (found.Two y j x i)
+picked true false x i y j = found.One x i
+picked false true x i y j = found.One y j
+picked false false x i y j = found.Nothing
 
 -- of draft d
 unfoldable pub changesIn : List ℕ → ℕ → Found
 changesIn l d =
     picked (differing l (getD l (5 + 4 * d) 0) (7 + 2 * d)) (differing l (getD l (6 + 4 * d) 0) (8 + 2 * d))
     (getD l (5 + 4 * d) 0) (7 + 2 * d) (getD l (6 + 4 * d) 0) (8 + 2 * d)
+
+-- of step r, counted from 0; byte 0 names no second segment
+unfoldable pub stepIn : List ℕ → ℕ → Found
+stepIn l r =
+    cond (eqb (getD l (33 + 2 * r) 0) 0) (found.One (getD l (32 + 2 * r) 0) (17 + 2 * r))
+    (found.Two (getD l (32 + 2 * r) 0) (17 + 2 * r) (getD l (33 + 2 * r) 0) (18 + 2 * r))
 
 -- ---- in books
 abbrev pub copy : ℕ → Content → Copy
@@ -62,11 +84,11 @@ pub record FindsTwo (b : Book) (s from t other : ℕ) (cs : List Copy) : Type 0 
   pub stands2 : Stands b t other content2
   pub are : cs ≡ copy s content ∷ copy t content2 ∷ []
 
--- the copies that four numbers tell
-pub record Finds (b : Book) (first from second other : ℕ) (cs : List Copy) : Type 0 where
-  pub none : first ≡ 0 → cs ≡ []
-  pub single : 1 ≤ first → second ≡ 0 → FindsOne b first from cs
-  pub both : 1 ≤ first → 1 ≤ second → FindsTwo b first from second other cs
+-- the copies that were found
+abbrev pub Finds : Book → Found → List Copy → Type 0
+Finds b found.Nothing cs = cs ≡ []
+Finds b (found.One s from) cs = FindsOne b s from cs
+Finds b (found.Two s from t other) cs = FindsTwo b s from t other cs
 
 -- the copies stored, those of a draft or of a step that goes back, and the drafts that took one of their segments stale; the steps are as they were
 abbrev pub replaced : Book → List Copy → Book
@@ -76,3 +98,8 @@ replaced b cs = record { issue = b .issue; segments = stored cs (b .segments); d
 pub record Leaves (r : Changed) (l : List ℕ) (b : Book) (d : ℕ) (cs : List Copy) : Type 0 where
   pub says : segmentsOf r ≡ numbers cs
   pub left : l ≡ bytesOf (committed b d cs)
+
+-- what an undo answers and leaves
+pub record PutsBack (r : Changed) (l : List ℕ) (b : Book) (cs : List Copy) : Type 0 where
+  pub says : segmentsOf r ≡ numbers cs
+  pub left : l ≡ bytesOf (undone b cs)

@@ -1,68 +1,72 @@
 // Commit and undo: document 01, "Steps".
 ghost use mathlib.Core.Path.{_≡_};
-ghost use mathlib.Core.Bool.{true, false};
+ghost use mathlib.Core.Bool.{true};
 ghost use mathlib.Core.List.{List};
 ghost use Prim.Native.Nat.{ℕ, _+_, _*_, _≤_, _<_};
 ghost use lib.ListN.{length, getD};
 ghost use Rattle.laws.proofs.Lists.{All};
 ghost use Rattle.blocks.specs.Block.{blockCount, bookLength};
 ghost use Rattle.steps.specs.Book.{Copy, closed, Book, put};
-ghost use Rattle.steps.specs.Calls.{withDrafts, stepsMost, committed, stored, undone};
+ghost use Rattle.steps.specs.Calls.{withDrafts, stepsMost, stored};
 ghost use Rattle.layout.specs.Layout.{bytesOf, bookOf, stepOf};
 ghost use Rattle.layout.specs.Sound.{isSound, FineDraft, Sound};
 ghost use Rattle.layout.specs.Lies.{Lies};
-ghost use Rattle.layout.specs.Rule.{Does, segmentsOf};
-ghost use Rattle.history.specs.Changing.{named, differing, picked, changesIn, Finds, replaced, Leaves};
+ghost use Rattle.layout.specs.Rule.{Does};
+ghost use Rattle.history.specs.Changing.{changedOf, Placed, differing, picked, changesIn, stepIn, Finds, replaced, Leaves, PutsBack};
 ghost use Rattle.moves.specs.Undo.{withSegments};
 ghost use Rattle.history.specs.LastStep.{LastStep};
 ghost use Rattle.steps.specs.Calls as calls;
 use layout::Changed;
 use layout::Reply;
 
-// ---- what commit and undo share
-// One or two segments as they are answered, second 0 if none.
-fn segments(first: usize, second: usize) -> Changed
-    ensures { λ r. ⌜ segmentsOf r ≡ named first second ⌝ }
-{
-    if second == 0 {
-        return Changed::One(first);
-    }
-    Changed::Two(first, second)
+// Segments, ascending, each with the block of a draft or a step that holds what the segment is to hold.
+enum Found {
+    Nothing,
+    One(usize, usize),
+    Two(usize, usize, usize, usize),
 }
 
-// One or two segments hold what blocks `from` and `other` hold; second is 0 if there is one.
-fn put_blocks(book: &mut [u8], first: usize, from: usize, second: usize, other: usize)
-    requires { ⌜ (length (now book) ≡ bookLength) × (1 ≤ first) × (first ≤ 8) × (9 ≤ from) × (from < blockCount) × (second ≤ 8) × (9 ≤ other) × (other < blockCount) ⌝ }
-    ensures { λ _. ⌜ ((b : Book) → Lies (now (book .entry)) b → (cs : List Copy) → Finds b first from second other cs → Lies (now (book .exit)) (withSegments b (stored cs (b .segments)))) ⌝ }
+// ---- what commit and undo share
+// The segments that were found, as they are answered.
+fn segments(found: Found) -> Changed
+    ensures { λ r. ⌜ r ≡ changedOf found ⌝ }
 {
-    if second == 0 {
-        moves::put_segment(book, from, first);
-        return;
+    match found {
+        Found::Nothing => Changed::Nothing,
+        Found::One(s, _) => Changed::One(s),
+        Found::Two(s, _, t, _) => Changed::Two(s, t),
     }
-    moves::put_segment(book, other, second);
-    moves::put_segment(book, from, first);
+}
+
+// The segments that were found hold what their blocks hold.
+fn put_blocks(book: &mut [u8], found: Found)
+    requires { ⌜ (length (now book) ≡ bookLength) × Placed blockCount found ⌝ }
+    ensures { λ _. ⌜ ((b : Book) → Lies (now (book .entry)) b → (cs : List Copy) → Finds b found cs → Lies (now (book .exit)) (withSegments b (stored cs (b .segments)))) ⌝ }
+{
+    match found {
+        Found::Nothing => {}
+        Found::One(s, from) => {
+            moves::put_segment(book, from, s);
+        }
+        Found::Two(s, from, t, other) => {
+            moves::put_segment(book, other, t);
+            moves::put_segment(book, from, s);
+        }
+    }
 }
 
 // The same, and the drafts that took one of them turn stale.
-fn replace(book: &mut [u8], first: usize, from: usize, second: usize, other: usize)
-    requires { ⌜ (length (now book) ≡ bookLength) × (1 ≤ first) × (first ≤ 8) × (9 ≤ from) × (from < blockCount) × (second ≤ 8) × (9 ≤ other) × (other < blockCount) ⌝ }
-    ensures { λ _. ⌜ ((b : Book) → Lies (now (book .entry)) b → (issue n : ℕ) → All (FineDraft issue n) (b .drafts) → (cs : List Copy) → Finds b first from second other cs → Lies (now (book .exit)) (replaced b cs)) ⌝ }
+fn replace(book: &mut [u8], found: Found)
+    requires { ⌜ (length (now book) ≡ bookLength) × Placed blockCount found ⌝ }
+    ensures { λ _. ⌜ ((b : Book) → Lies (now (book .entry)) b → (issue n : ℕ) → All (FineDraft issue n) (b .drafts) → (cs : List Copy) → Finds b found cs → Lies (now (book .exit)) (replaced b cs)) ⌝ }
 {
-    put_blocks(book, first, from, second, other);
-    let changed = segments(first, second);
+    put_blocks(book, found);
+    let changed = segments(found);
     moves::mark_stale(book, changed);
 }
 
 // ---- commit
-// The changed segments of a draft, ascending, 0 for none, and the blocks of their copies.
-struct Found {
-    first: usize,
-    from: usize,
-    second: usize,
-    other: usize,
-}
-
-// Whether the copy in block k differs from segment s; 0 is no segment.
+// Whether the copy in block k differs from segment s; byte 0 names no segment.
 fn differs(book: &[u8], s: usize, k: usize) -> bool
     requires { ⌜ (length (now book) ≡ bookLength) × (s < blockCount) × (k < blockCount) ⌝ }
     ensures { λ r. ⌜ r ≡ differing (now (book .entry)) s k ⌝ }
@@ -76,54 +80,27 @@ fn differs(book: &[u8], s: usize, k: usize) -> bool
 
 // Which of segments x and y, with copies in blocks i and j, changed.
 fn pick(a: bool, b: bool, x: usize, i: usize, y: usize, j: usize) -> Found
-    requires { ⌜ (x ≤ 8) × (y ≤ 8) × (9 ≤ i) × (i < 17) × (9 ≤ j) × (j < 17) ⌝ }
-    ensures is { λ r. ⌜ r ≡ picked a b x i y j ⌝ }
-    ensures most { λ r. ⌜ (r .first ≤ 8) × (r .second ≤ 8) × (9 ≤ r .from) × (r .from < 17) × (9 ≤ r .other) × (r .other < 17) ⌝ }
+    ensures { λ r. ⌜ r ≡ picked a b x i y j ⌝ }
 {
     if a {
         if b {
             if x < y {
-                return Found {
-                    first: x,
-                    from: i,
-                    second: y,
-                    other: j,
-                };
+                return Found::Two(x, i, y, j);
             }
-            return Found {
-                first: y,
-                from: j,
-                second: x,
-                other: i,
-            };
+            return Found::Two(y, j, x, i);
         }
-        return Found {
-            first: x,
-            from: i,
-            second: 0,
-            other: j,
-        };
+        return Found::One(x, i);
     }
     if b {
-        return Found {
-            first: y,
-            from: j,
-            second: 0,
-            other: i,
-        };
+        return Found::One(y, j);
     }
-    Found {
-        first: 0,
-        from: i,
-        second: 0,
-        other: j,
-    }
+    Found::Nothing
 }
 
+// The changed segments of draft d, with the blocks of their copies.
 fn changes_in(book: &[u8], d: usize) -> Found
     requires { ⌜ (length (now book) ≡ bookLength) × (1 ≤ d) × (d ≤ 4) × (getD (now book) (5 + 4 * d) 0 ≤ 8) × (getD (now book) (6 + 4 * d) 0 ≤ 8) ⌝ }
-    ensures is { λ r. ⌜ r ≡ changesIn (now (book .entry)) d ⌝ }
-    ensures most { λ r. ⌜ (r .first ≤ 8) × (r .second ≤ 8) × (9 ≤ r .from) × (r .from < 17) × (9 ≤ r .other) × (r .other < 17) ⌝ }
+    ensures { λ r. ⌜ r ≡ changesIn (now (book .entry)) d ⌝ }
 {
     let x = blocks::size(book[5 + 4 * d]);
     let y = blocks::size(book[6 + 4 * d]);
@@ -141,35 +118,16 @@ fn finish(book: &mut [u8], d: usize)
     moves::seal_index(book);
 }
 
-// Commits draft d with one or two changed segments, second 0 if none.
-fn commit_changed(book: &mut [u8], d: usize, first: usize, from: usize, second: usize, other: usize)
-    requires { ⌜ (length (now book) ≡ bookLength) × (1 ≤ d) × (d ≤ 4) × (getD (now book) 24 0 ≤ stepsMost) × (1 ≤ first) × (first ≤ 8) × (9 ≤ from) × (from < 17) × (second ≤ 8) × (9 ≤ other) × (other < 17) ⌝ }
-    ensures { λ _. ⌜ ((b : Book) → Lies (now (book .entry)) b → Sound b → (cs : List Copy) → Finds b first from second other cs → now (book .exit) ≡ bytesOf (committed b d cs)) ⌝ }
+// Commits draft d, which is open and not stale, with the changes that were found in it: a step only if there are any.
+fn commit_found(book: &mut [u8], d: usize, found: Found) -> Changed
+    requires { ⌜ (length (now book) ≡ bookLength) × (1 ≤ d) × (d ≤ 4) × (getD (now book) 24 0 ≤ stepsMost) × Placed 17 found ⌝ }
+    ensures { λ r. ⌜ ((b : Book) → Lies (now (book .entry)) b → Sound b → (cs : List Copy) → Finds b found cs → Leaves r (now (book .exit)) b d cs) ⌝ }
 {
-    let changed = segments(first, second);
+    let changed = segments(found);
     moves::push_step(book, changed);
-    replace(book, first, from, second, other);
+    replace(book, found);
     finish(book, d);
-}
-
-// Commits draft d, which is open and not stale, with the changes that were found in it.
-fn commit_found(
-    book: &mut [u8],
-    d: usize,
-    first: usize,
-    from: usize,
-    second: usize,
-    other: usize,
-) -> Changed
-    requires { ⌜ (length (now book) ≡ bookLength) × (1 ≤ d) × (d ≤ 4) × (getD (now book) 24 0 ≤ stepsMost) × (first ≤ 8) × (second ≤ 8) × (9 ≤ from) × (from < 17) × (9 ≤ other) × (other < 17) ⌝ }
-    ensures { λ r. ⌜ ((b : Book) → Lies (now (book .entry)) b → Sound b → (cs : List Copy) → Finds b first from second other cs → Leaves r (now (book .exit)) b d cs) ⌝ }
-{
-    if first < 1 {
-        finish(book, d);
-        return Changed::Nothing;
-    }
-    commit_changed(book, d, first, from, second, other);
-    segments(first, second)
+    changed
 }
 
 // Commits draft d of a sound book.
@@ -187,14 +145,12 @@ fn commit_sound(book: &mut [u8], d: usize) -> Reply
     if open == 0 {
         return layout::refused(refusal::NO_DRAFT);
     }
-    let found = changes_in(book, d);
-    let first = found.first;
     let stale = blocks::size(book[7 + 4 * d]);
-    let is_stale = stale == 1;
-    if is_stale {
+    if stale == 1 {
         return layout::refused(refusal::STALE_DRAFT);
     }
-    let changed = commit_found(book, d, first, found.from, found.second, found.other);
+    let found = changes_in(book, d);
+    let changed = commit_found(book, d, found);
     Reply::Segments(changed)
 }
 
@@ -213,14 +169,29 @@ pub fn commit(book: &mut [u8], d: usize) -> Reply
 }
 
 // ---- undo
-// Undoes the newest step: step r, counted from 0, of one or two segments, second 0 if none.
-fn undo_step(book: &mut [u8], r: usize, first: usize, second: usize)
-    requires { ⌜ (length (now book) ≡ bookLength) × LastStep (now book) r first second ⌝ }
-    ensures { λ _. ⌜ now (book .exit) ≡ bytesOf (undone (bookOf (now (book .entry))) (stepOf (now (book .entry)) r)) ⌝ }
+// The segments of step r, counted from 0, with its blocks; byte 0 names no second one.
+fn step_at(book: &[u8], r: usize) -> Found
+    requires { ⌜ (length (now book) ≡ bookLength) × (r < stepsMost) ⌝ }
+    ensures { λ f. ⌜ f ≡ stepIn (now (book .entry)) r ⌝ }
 {
-    replace(book, first, 17 + 2 * r, second, 18 + 2 * r);
+    let first = blocks::size(book[32 + 2 * r]);
+    let second = blocks::size(book[33 + 2 * r]);
+    if second == 0 {
+        return Found::One(first, 17 + 2 * r);
+    }
+    Found::Two(first, 17 + 2 * r, second, 18 + 2 * r)
+}
+
+// Undoes the newest step: step r, counted from 0.
+fn undo_step(book: &mut [u8], r: usize) -> Changed
+    requires { ⌜ (length (now book) ≡ bookLength) × LastStep (now book) r ⌝ }
+    ensures { λ c. ⌜ PutsBack c (now (book .exit)) (bookOf (now (book .entry))) (stepOf (now (book .entry)) r) ⌝ }
+{
+    let found = step_at(book, r);
+    replace(book, found);
     moves::pop_step(book);
     moves::seal_index(book);
+    segments(found)
 }
 
 // The newest step's blocks go back, the step goes, and drafts that took its segments turn stale.
@@ -238,10 +209,6 @@ pub fn undo(book: &mut [u8]) -> Reply
     if n == 0 {
         return layout::refused(refusal::NO_STEP);
     }
-    let r = n - 1;
-    let first = blocks::size(book[32 + 2 * r]);
-    let second = blocks::size(book[33 + 2 * r]);
-    undo_step(book, r, first, second);
-    let changed = segments(first, second);
+    let changed = undo_step(book, n - 1);
     Reply::Segments(changed)
 }

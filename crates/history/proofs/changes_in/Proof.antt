@@ -61,7 +61,7 @@ pick-requires : tie.Need-pick-requires
 pick-requires c κs = search needs
 
 returns : tie.Need-returns
-returns c = (search (changes-are, needs), search needs)
+returns c = search (changes-are, needs)
 
 pub changes-in-spec : {M : Type 1} → statement M
 changes-in-spec =

@@ -1,7 +1,7 @@
+use borrow.Author.Needs.{needs}
 use native.Mathlib.Omega.{arith}
 use Rattle.blocks.proofs.Numbers.{Bytes}
-use Rattle.history.proofs.CommitRule.{first-low, second-low, steps-low, commit-low, commit-high, commit-shut, commit-stale, commit-done}
-use borrow.Author.Needs.{needs}
+use Rattle.history.proofs.CommitRule.{first-low, second-low, steps-low, found-placed, commit-low, commit-high, commit-shut, commit-stale, commit-done}
 use Rattle.history.proofs.commit_sound.Statement.{statement}
 use Rattle.history.proofs.commit_sound.Tie as tie
 
@@ -11,10 +11,11 @@ refused-requires c κs = search needs
 returns : tie.Need-returns
 unfolding Bytes
 returns c =
-    let s = c .before .before .before in
-    let l = s .args .book .now in
-    let bytes : Bytes l = λ i. omega (arith, c .before .before .slice-known .given i) in
-    commit-low l (s .args .d) (c .refused .result) bytes (s .pre .0) (s .pre .1) (omega arith) (c .refused .ensures)
+    let at-slice-known = c .before .before in
+    let start = at-slice-known .before in
+    let l = start .args .book .now in
+    let y : Bytes l = λ i. omega (arith, at-slice-known .slice-known .given i) in
+    commit-low l (start .args .d) (c .refused .result) y (start .pre .0) (start .pre .1) (omega arith) (c .refused .ensures)
 
 refused-requires-2 : tie.Need-refused-requires-2
 refused-requires-2 c κs = search needs
@@ -22,10 +23,11 @@ refused-requires-2 c κs = search needs
 returns-2 : tie.Need-returns-2
 unfolding Bytes
 returns-2 c =
-    let s = c .before .before .before .before in
-    let l = s .args .book .now in
-    let bytes : Bytes l = λ i. omega (arith, c .before .before .before .slice-known .given i) in
-    commit-high l (s .args .d) (c .refused2 .result) bytes (s .pre .0) (s .pre .1) (omega arith) (c .refused2 .ensures)
+    let at-slice-known = c .before .before .before in
+    let start = at-slice-known .before in
+    let l = start .args .book .now in
+    let y : Bytes l = λ i. omega (arith, at-slice-known .slice-known .given i) in
+    commit-high l (start .args .d) (c .refused2 .result) y (start .pre .0) (start .pre .1) (omega arith) (c .refused2 .ensures)
 
 mul-size : tie.Need-mul-size
 mul-size c = search needs
@@ -45,18 +47,14 @@ refused-requires-3 c κs = search needs
 returns-3 : tie.Need-returns-3
 unfolding Bytes
 returns-3 c =
-    let s = c .before .before .before .before .before .before .before in
-    let l = s .args .book .now in
-    let bytes : Bytes l = λ i. omega (arith, c .before .before .before .before .before .before .slice-known .given i) in
-    commit-shut l (s .args .d) (c .refused3 .result) bytes (s .pre .0) (s .pre .1) (omega arith) (omega arith)
-    (c .before .before .size .result) (c .before .before .size .ensures .0) (c .before .if3 .taken) (c .refused3 .ensures)
-
-changes-in-requires : tie.Need-changes-in-requires
-changes-in-requires c κs =
-    let s = c .before .before .before .before .before .before .before in
-    let l = s .args .book .now in
-    let d = s .args .d in
-    (s .pre .0, omega arith, omega arith, first-low l d (s .pre .1) (omega arith) (omega arith), second-low l d (s .pre .1) (omega arith) (omega arith))
+    let at-if3 = c .before in
+    let at-size = at-if3 .before in
+    let at-slice-known = at-size .before .before .before .before in
+    let start = at-slice-known .before in
+    let l = start .args .book .now in
+    let y : Bytes l = λ i. omega (arith, at-slice-known .slice-known .given i) in
+    commit-shut l (start .args .d) (c .refused3 .result) y (start .pre .0) (start .pre .1) (omega arith) (omega arith)
+    (at-size .size .result) (at-size .size .ensures .0) (at-if3 .if3 .taken) (c .refused3 .ensures)
 
 mul-size-2 : tie.Need-mul-size-2
 mul-size-2 c = search needs
@@ -73,36 +71,57 @@ size-requires-2 c κs = search needs
 refused-requires-4 : tie.Need-refused-requires-4
 refused-requires-4 c κs = search needs
 
-same-length : tie.Need-same-length
-same-length c = search needs
-
 returns-4 : tie.Need-returns-4
 unfolding Bytes
 returns-4 c =
-    let s = c .before .before .before .before .before .before .before .before .before .before .before .before in
-    let l = s .args .book .now in
-    let bytes : Bytes l = λ i. omega (arith, c .before .before .before .before .before .before .before .before .before .before .before .slice-known .given i) in
-    commit-stale l (s .args .d) (c .refused4 .result) bytes (s .pre .0) (s .pre .1) (omega arith) (omega arith)
-    (c .before .before .before .before .before .before .before .size .result) (c .before .before .size2 .result) (c .before .before .before .before .before .before .before .size .ensures .0) (c .before .before .before .before .before .before .if3 .left) (c .before .before .size2 .ensures .0) (c .before .if4 .taken) (c .refused4 .ensures)
+    let at-if4 = c .before in
+    let at-size2 = at-if4 .before in
+    let at-if3 = at-size2 .before .before in
+    let at-size = at-if3 .before in
+    let at-slice-known = at-size .before .before .before .before in
+    let start = at-slice-known .before in
+    let l = start .args .book .now in
+    let y : Bytes l = λ i. omega (arith, at-slice-known .slice-known .given i) in
+    commit-stale l (start .args .d) (c .refused4 .result) y (start .pre .0) (start .pre .1) (omega arith) (omega arith)
+    (at-size .size .result) (at-size2 .size2 .result) (at-size .size .ensures .0) (at-if3 .if3 .left) (at-size2 .size2 .ensures .0) (at-if4 .if4 .taken) (c .refused4 .ensures)
+
+changes-in-requires : tie.Need-changes-in-requires
+changes-in-requires c κs =
+    let on1 = c .before .before .before .before in
+    let on2 = on1 .before .before .before .before in
+    let start = on2 .before .before in
+    let l = start .args .book .now in
+    let d = start .args .d in
+    (start .pre .0, omega arith, omega arith, first-low l d (start .pre .1) (omega arith) (omega arith), second-low l d (start .pre .1) (omega arith) (omega arith))
 
 commit-found-requires : tie.Need-commit-found-requires
 commit-found-requires c κs =
-    let s = c .before .before .before .before .before .before .before .before .before .before .before .before in
-    let m = c .before .before .before .before .changes-in .ensures .1 in
-    (s .pre .0, omega arith, omega arith, steps-low (s .args .book .now) (s .pre .1), m .0, m .1, m .2, m .3, m .4, m .5)
+    let at-changes-in = c .before in
+    let on1 = at-changes-in .before .before .before .before in
+    let on2 = on1 .before .before .before .before in
+    let start = on2 .before .before .before in
+    let l = start .args .book .now in
+    (start .pre .0, omega arith, omega arith, steps-low l (start .pre .1), found-placed l (start .args .d) _ (start .pre .1) (omega arith) (omega arith) (at-changes-in .changes-in .ensures))
 
-same-length-2 : tie.Need-same-length-2
-same-length-2 c = search needs
+same-length : tie.Need-same-length
+same-length c = search needs
 
 returns-5 : tie.Need-returns-5
 unfolding Bytes
 returns-5 c =
-    let s = c .before .before .before .before .before .before .before .before .before .before .before .before .before .before .before in
-    let l = s .args .book .now in
-    let bytes : Bytes l = λ i. omega (arith, c .before .before .before .before .before .before .before .before .before .before .before .before .before .before .slice-known .given i) in
-    commit-done l _ (s .args .d) (c .before .before .before .before .before .before .before .changes-in .result) (c .before .before .commit-found .result) bytes (s .pre .0) (s .pre .1) (omega arith) (omega arith)
-    (c .before .before .before .before .before .before .before .before .before .before .size .result) (c .before .before .before .before .before .size2 .result) (c .before .before .before .before .before .before .before .before .before .before .size .ensures .0) (c .before .before .before .before .before .before .before .before .before .if3 .left) (c .before .before .before .before .before .size2 .ensures .0) (c .before .before .before .before .if4 .left)
-    (c .before .before .before .before .before .before .before .changes-in .ensures .0) (c .before .before .commit-found .ensures)
+    let at-commit-found = c .before .before in
+    let at-changes-in = at-commit-found .before .before in
+    let at-if4 = at-changes-in .before .before in
+    let at-size2 = at-if4 .before in
+    let at-if3 = at-size2 .before .before in
+    let at-size = at-if3 .before in
+    let at-slice-known = at-size .before .before .before .before in
+    let start = at-slice-known .before in
+    let l = start .args .book .now in
+    let y : Bytes l = λ i. omega (arith, at-slice-known .slice-known .given i) in
+    commit-done l _ (start .args .d) (at-changes-in .changes-in .result) (at-commit-found .commit-found .result) y (start .pre .0) (start .pre .1) (omega arith) (omega arith)
+    (at-size .size .result) (at-size2 .size2 .result) (at-size .size .ensures .0) (at-if3 .if3 .left) (at-size2 .size2 .ensures .0) (at-if4 .if4 .left)
+    (at-changes-in .changes-in .ensures) (at-commit-found .commit-found .ensures)
 
 pub commit-sound-spec : {M : Type 1} → statement M
 commit-sound-spec =
@@ -118,14 +137,13 @@ commit-sound-spec =
     size-requires
     refused-requires-3
     returns-3
-    changes-in-requires
     mul-size-2
     add-size-2
     slice-read-size-2
     size-requires-2
     refused-requires-4
-    same-length
     returns-4
+    changes-in-requires
     commit-found-requires
-    same-length-2
+    same-length
     returns-5)

@@ -1,6 +1,5 @@
-use native.Mathlib.Omega.{arith}
 use borrow.Author.Needs.{needs}
-use Rattle.history.proofs.Stores.{named-among, replace-done}
+use Rattle.history.proofs.Stores.{placed-among, replace-done}
 use Rattle.history.proofs.replace.Statement.{statement}
 use Rattle.history.proofs.replace.Tie as tie
 
@@ -12,16 +11,23 @@ segments-requires c κs = search needs
 
 mark-stale-requires : tie.Need-mark-stale-requires
 mark-stale-requires c κs =
-    let s = c .before .before .before .before .before .before .before in
-    (search needs, named-among 8 (s .args .first) (s .args .second) (c .before .segments .result) (c .before .segments .ensures) (s .pre .1) (s .pre .2) (s .pre .5))
+    let at-segments = c .before in
+    let on1 = at-segments .before .before .before .before in
+    let start = on1 .before .before in
+    (search needs, placed-among _ _ _ (at-segments .segments .ensures) (start .pre .1))
 
 same-length : tie.Need-same-length
 same-length c = search needs
 
 returns : tie.Need-returns
 returns c =
-    let s = c .before .before .before .before .before .before .before .before .before .before .args in
-    replace-done (s .first) (s .from) (s .second) (s .other) (omega arith) (s .book .now) _ _ (c .before .before .before .before .segments .result) (c .before .before .before .before .segments .ensures) (c .before .before .before .before .before .before .before .put-blocks .ensures) (c .before .before .mark-stale .ensures)
+    let at-mark-stale = c .before .before in
+    let at-segments = at-mark-stale .before .before in
+    let at-put-blocks = at-segments .before .before .before in
+    let start = at-put-blocks .before .before .before in
+    replace-done _ _ _ (start .args .found) _ (at-segments .segments .ensures) (at-put-blocks .put-blocks .ensures) (at-mark-stale .mark-stale .ensures)
 
 pub replace-spec : {M : Type 1} → statement M
-replace-spec = tie.close (tie.spec put-blocks-requires segments-requires mark-stale-requires same-length returns)
+replace-spec =
+    tie.close
+    (tie.spec put-blocks-requires segments-requires mark-stale-requires same-length returns)

@@ -1,6 +1,6 @@
+use borrow.Author.Needs.{needs}
 use mathlib.Core.Path.{refl, sym, ap, _∙_}
 use native.Mathlib.Omega.{arith}
-use borrow.Author.Needs.{needs}
 use borrow.Author.Tests.{not-true, not-false}
 use Rattle.blocks.proofs.Numbers.{Bytes}
 use Rattle.layout.specs.Rule.{paperReply}
@@ -11,53 +11,103 @@ use Rattle.history.proofs.UndoBooks.{undo-none, undo-does}
 use Rattle.history.proofs.undo.Statement.{statement}
 use Rattle.history.proofs.undo.Tie as tie
 
+refused-requires : tie.Need-refused-requires
+refused-requires c κs = search needs
+
+returns : tie.Need-returns
+returns c =
+    let at-if1 = c .before in
+    let start = at-if1 .before .before in
+    does-short (start .args .book .now) undo _ (at-if1 .if1 .taken) (ap paperReply (c .refused .ensures))
+
+is-sound-requires : tie.Need-is-sound-requires
+is-sound-requires c κs = search needs
+
+refused-requires-2 : tie.Need-refused-requires-2
+refused-requires-2 c κs = search needs
+
+same-length : tie.Need-same-length
+same-length c = search needs
+
+returns-2 : tie.Need-returns-2
+returns-2 c =
+    let at-if2 = c .before in
+    let at-is-sound = at-if2 .before in
+    let at-if1 = at-is-sound .before .before in
+    let start = at-if1 .before .before in
+    does-unsound (start .args .book .now) undo _ (at-if1 .if1 .left) (sym (at-is-sound .is-sound .ensures) ∙ not-true _ (at-if2 .if2 .taken)) (ap paperReply (c .refused2 .ensures))
+
+slice-read-size : tie.Need-slice-read-size
+slice-read-size c = search needs
+
+size-requires : tie.Need-size-requires
+size-requires c κs = search needs
+
+refused-requires-3 : tie.Need-refused-requires-3
+refused-requires-3 c κs = search needs
+
+same-length-2 : tie.Need-same-length-2
+same-length-2 c = search needs
+
 returns-3 : tie.Need-returns-3
 unfolding Bytes
 returns-3 c =
-    let l = c .before .before .before .before .before .before .before .before .before .args .book .now in
-    let y : Bytes l = λ i. omega (arith, c .before .before .before .before .before .before .before .before .slice-known .given i) in
-    undo-none l _ y (c .before .before .before .before .before .before .before .if1 .left) (sym (c .before .before .before .before .before .is-sound .ensures) ∙ not-false _ (c .before .before .before .before .if2 .left)) (sym (c .before .before .size .ensures .0) ∙ c .before .if3 .taken) (ap paperReply (c .refused3 .ensures))
+    let at-if3 = c .before in
+    let at-size = at-if3 .before in
+    let at-if2 = at-size .before .before in
+    let at-is-sound = at-if2 .before in
+    let at-if1 = at-is-sound .before .before in
+    let at-slice-known = at-if1 .before in
+    let start = at-slice-known .before in
+    let l = start .args .book .now in
+    let y : Bytes l = λ i. omega (arith, at-slice-known .slice-known .given i) in
+    undo-none l _ y (at-if1 .if1 .left) (sym (at-is-sound .is-sound .ensures) ∙ not-false _ (at-if2 .if2 .left)) (sym (at-size .size .ensures .0) ∙ at-if3 .if3 .taken) (ap paperReply (c .refused3 .ensures))
+
+sub-undo-step : tie.Need-sub-undo-step
+sub-undo-step c = search needs
 
 undo-step-requires : tie.Need-undo-step-requires
-undo-step-requires c κs = (
-  c .before .before .before .before .before .before .before .before .before .before .before .if1 .left,
-  last-step (c .before .before .before .before .before .before .before .before .before .before .before .before .before .args .book .now) _ _ _ _ (sym (c .before .before .before .before .before .before .before .before .before .is-sound .ensures) ∙ not-false _ (c .before .before .before .before .before .before .before .before .if2 .left)) (c .before .before .before .before .before .before .size .ensures .0) (c .before .before .before .before .before .if3 .left) refl (c .before .before .before .size2 .ensures .0) (c .before .size3 .ensures .0),
-)
+undo-step-requires c κs =
+    let at-if3 = c .before in
+    let at-size = at-if3 .before in
+    let at-if2 = at-size .before .before in
+    let at-is-sound = at-if2 .before in
+    let at-if1 = at-is-sound .before .before in
+    let start = at-if1 .before .before in
+    (at-if1 .if1 .left, last-step (start .args .book .now) _ _ (sym (at-is-sound .is-sound .ensures) ∙ not-false _ (at-if2 .if2 .left)) (at-size .size .ensures .0) (at-if3 .if3 .left) refl)
+
+same-length-3 : tie.Need-same-length-3
+same-length-3 c = search needs
 
 returns-4 : tie.Need-returns-4
-unfolding Bytes
 returns-4 c =
-    let l = c .before .before .before .before .before .before .before .before .before .before .before .before .before .before .before .before .before .args .book .now in
-    let y : Bytes l = λ i. omega (arith, c .before .before .before .before .before .before .before .before .before .before .before .before .before .before .before .before .slice-known .given i) in
-    undo-does l _ _ _ y
-    (last-step l _ _ _ _ (sym (c .before .before .before .before .before .before .before .before .before .before .before .before .before .is-sound .ensures) ∙ not-false _ (c .before .before .before .before .before .before .before .before .before .before .before .before .if2 .left)) (c .before .before .before .before .before .before .before .before .before .before .size .ensures .0) (c .before .before .before .before .before .before .before .before .before .if3 .left) refl (c .before .before .before .before .before .before .before .size2 .ensures .0) (c .before .before .before .before .before .size3 .ensures .0))
-    _ _ (c .before .before .before .before .before .before .before .before .before .before .before .before .before .before .before .if1 .left) (c .before .before .before .undo-step .ensures) (c .segments .ensures)
+    let at-undo-step = c .before .before in
+    let at-if3 = at-undo-step .before .before in
+    let at-size = at-if3 .before in
+    let at-if2 = at-size .before .before in
+    let at-is-sound = at-if2 .before in
+    let at-if1 = at-is-sound .before .before in
+    let start = at-if1 .before .before in
+    let l = start .args .book .now in
+    let s = last-step l _ _ (sym (at-is-sound .is-sound .ensures) ∙ not-false _ (at-if2 .if2 .left)) (at-size .size .ensures .0) (at-if3 .if3 .left) refl in
+    undo-does l _ s _ _ (at-if1 .if1 .left) (at-undo-step .undo-step .ensures)
 
 pub undo-spec : {M : Type 1} → statement M
 undo-spec =
     tie.close
     (tie.spec
-    (λ c κs. search needs)
-    (λ c. does-short (c .before .before .before .args .book .now) undo _ (c .before .if1 .taken) (ap paperReply (c .refused .ensures)))
-    (λ c κs. search needs)
-    (λ c κs. search needs)
-    (λ c. search needs)
-    (λ c. does-unsound (c .before .before .before .before .before .before .args .book .now) undo _ (c .before .before .before .before .if1 .left) (sym (c .before .before .is-sound .ensures) ∙ not-true _ (c .before .if2 .taken)) (ap paperReply (c .refused2 .ensures)))
-    (λ c. search needs)
-    (λ c κs. search needs)
-    (λ c κs. search needs)
-    (λ c. search needs)
+    refused-requires
+    returns
+    is-sound-requires
+    refused-requires-2
+    same-length
+    returns-2
+    slice-read-size
+    size-requires
+    refused-requires-3
+    same-length-2
     returns-3
-    (λ c. search needs)
-    (λ c. search needs)
-    (λ c. search needs)
-    (λ c. search needs)
-    (λ c κs. search needs)
-    (λ c. search needs)
-    (λ c. search needs)
-    (λ c. search needs)
-    (λ c κs. search needs)
+    sub-undo-step
     undo-step-requires
-    (λ c κs. search needs)
-    (λ c. search needs)
+    same-length-3
     returns-4)

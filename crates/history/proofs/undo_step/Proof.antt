@@ -1,36 +1,66 @@
-use native.Mathlib.Omega.{arith}
 use borrow.Author.Needs.{needs}
+use native.Mathlib.Omega.{arith}
+use mathlib.Core.Path.{sym, subst}
+use Rattle.blocks.specs.Block.{blockCount}
 use Rattle.blocks.proofs.Numbers.{Bytes}
+use Rattle.history.specs.Changing.{Placed}
+use Rattle.history.proofs.UndoSteps.{step-placed}
 use Rattle.history.proofs.UndoBooks.{back-count, step-gone}
 use Rattle.history.proofs.undo_step.Statement.{statement}
 use Rattle.history.proofs.undo_step.Tie as tie
 
+step-at-requires : tie.Need-step-at-requires
+step-at-requires c κs = search needs
+
+replace-requires : tie.Need-replace-requires
+replace-requires c κs =
+    let at-step-at = c .before in
+    let start = at-step-at .before .before .before in
+    (search needs, subst (Placed blockCount) (sym (at-step-at .step-at .ensures)) (step-placed (start .args .book .now) (start .args .r) (start .pre .1)))
+
 pop-step-requires : tie.Need-pop-step-requires
 unfolding Bytes
 pop-step-requires c κs =
-    let s = c .before .before .before .before .before .before in
-    let y : Bytes (s .args .book .now) = λ i. omega (arith, c .before .before .before .before .before .slice-known .given i) in
-    let e = back-count (s .args .book .now) (s .args .r) (s .args .first) (s .args .second) y (s .pre .1) _ (c .before .before .before .replace .ensures) in
-    (search needs, omega (arith, e), omega (arith, e, s .pre .1 .sixteen))
+    let at-replace = c .before .before .before in
+    let at-step-at = at-replace .before .before in
+    let at-slice-known = at-step-at .before .before in
+    let start = at-slice-known .before in
+    let l = start .args .book .now in
+    let y : Bytes l = λ i. omega (arith, at-slice-known .slice-known .given i) in
+    let e = back-count l (start .args .r) y (start .pre .1) _ (at-step-at .step-at .ensures) _ (at-replace .replace .ensures) in
+    (search needs, omega (arith, e), omega (arith, e, start .pre .1 .sixteen))
+
+seal-index-requires : tie.Need-seal-index-requires
+seal-index-requires c κs = search needs
+
+segments-requires : tie.Need-segments-requires
+segments-requires c κs = search needs
+
+same-length : tie.Need-same-length
+same-length c = search needs
 
 returns : tie.Need-returns
 unfolding Bytes
 returns c =
-    let s = c .before .before .before .before .before .before .before .before .before .before .before .before .before in
-    let y : Bytes (s .args .book .now) = λ i. omega (arith, c .before .before .before .before .before .before .before .before .before .before .before .before .slice-known .given i) in
-    step-gone (s .args .book .now) (s .args .r) (s .args .first) (s .args .second) y (s .pre .1) _ _ _
-    (c .before .before .before .before .before .before .before .before .before .before .replace .ensures) (c .before .before .before .before .before .before .pop-step .ensures) (c .before .before .seal-index .ensures)
+    let at-seal-index = c .before .before .before in
+    let at-pop-step = at-seal-index .before .before .before .before in
+    let at-replace = at-pop-step .before .before .before .before in
+    let at-step-at = at-replace .before .before in
+    let at-slice-known = at-step-at .before .before in
+    let start = at-slice-known .before in
+    let l = start .args .book .now in
+    let y : Bytes l = λ i. omega (arith, at-slice-known .slice-known .given i) in
+    step-gone l (start .args .r) y (start .pre .1) _ (at-step-at .step-at .ensures) _ _ _ _ (at-replace .replace .ensures) (at-pop-step .pop-step .ensures) (at-seal-index .seal-index .ensures)
+    (c .segments .ensures)
 
 pub undo-step-spec : {M : Type 1} → statement M
 undo-step-spec =
     tie.close
     (tie.spec
-    (λ c. search needs)
-    (λ c. search needs)
-    (λ c. search needs)
-    (λ c. search needs)
-    (λ c κs. search needs)
+    step-at-requires
+    replace-requires
     pop-step-requires
-    (λ c κs. search needs)
-    (λ c. search needs)
+    seal-index-requires
+    segments-requires
+    same-length
     returns)
