@@ -24,7 +24,7 @@ use Rattle.blocks.proofs.Contents.{content-said, content-used, sound-true}
 use Rattle.steps.specs.Book.{Copy, Draft, closed, working, at, put, draftAt}
 use Rattle.steps.specs.Calls.{Edit, Work, editing, Call, on, Answer, refused, edited, inRange, copyOf, ranged, work, acts, withDrafts, step}
 use Rattle.layout.specs.Layout.{copiesOf, bytesOf, bookOf}
-use Rattle.layout.specs.Sound.{isSound}
+use Rattle.layout.specs.Tests.{isSound}
 use Rattle.layout.specs.Rule.{leaving, onBytes}
 use Rattle.layout.proofs.ForthIndex.{or-closed}
 use Rattle.copies.specs.Admission.{isOpen, exists, admission}

@@ -18,7 +18,7 @@ use Rattle.refusal.specs.declared.Verdict.the-variants.{Accepted, Refused}
 use Rattle.blocks.specs.Block.{bookLength}
 use Rattle.steps.specs.Book.{Copy, Draft, closed, at, orClosed, draftAt}
 use Rattle.layout.specs.Layout.{copiesOf, copiesAt, draftOf, bookOf}
-use Rattle.layout.specs.Sound.{isSound}
+use Rattle.layout.specs.Tests.{isSound}
 use Rattle.layout.proofs.Parts.{sound-parts, draft-cases}
 use Rattle.layout.proofs.Said.{drafts-length, draft-of, segment-of, segment-past, copies-none, copies-one, copies-two}
 use Rattle.layout.proofs.Shown.{second-needs}

@@ -22,7 +22,8 @@ use Rattle.blocks.proofs.Contents.{used-length}
 use Rattle.steps.specs.Book.{Copy, Draft, closed, working, Book, at}
 use Rattle.steps.specs.Calls.{Edit, Work, editing, Call, on, Answer, refused, edited, inRange, copyOf, recopy, works, ranged, work, acts, withDrafts, step}
 use Rattle.layout.specs.Layout.{heldOf, heldIn, copiesOf, partOf, blockBytes, bytesOf, bookOf}
-use Rattle.layout.specs.Sound.{isSound, FineTaken, FineDraft, closed-fine, working-fine, Sound}
+use Rattle.layout.specs.Sound.{FineTaken, FineDraft, closed-fine, working-fine, Sound}
+use Rattle.layout.specs.Tests.{isSound}
 use Rattle.layout.specs.Rule.{leaving, onBytes}
 use Rattle.layout.specs.Lies.{Lies}
 use Rattle.layout.proofs.ForthBlocks.{lies-sealed}

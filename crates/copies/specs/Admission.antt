@@ -11,7 +11,7 @@ use Rattle.codes.specs.Block.{Content}
 use Rattle.blocks.specs.Block.{bookLength}
 use Rattle.steps.specs.Book.{Draft, closed, working, at, draftAt}
 use Rattle.layout.specs.Layout.{bookOf}
-use Rattle.layout.specs.Sound.{isSound}
+use Rattle.layout.specs.Tests.{isSound}
 
 abbrev pub isOpen : Draft → Bool
 isOpen closed = false

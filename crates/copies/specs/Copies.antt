@@ -9,7 +9,7 @@ use lib.Dec.{eqb}
 use Rattle.blocks.specs.Block.{bookLength}
 use Rattle.steps.specs.Book.{Copy, at, draftAt}
 use Rattle.layout.specs.Layout.{copiesOf, bookOf}
-use Rattle.layout.specs.Sound.{isSound}
+use Rattle.layout.specs.Tests.{isSound}
 use Rattle.copies.specs.Admission.{isOpen, exists}
 use Rattle.copies.specs.declared.Found.{Found}
 use Rattle.copies.specs.declared.Found.the-variants as found

@@ -13,7 +13,7 @@ use Rattle.blocks.proofs.Numbers.{Bytes}
 use Rattle.steps.specs.Book.{Draft, closed, working, Book, put, draftAt}
 use Rattle.steps.specs.Calls.{drop, done, refused, drops, withDrafts, step}
 use Rattle.layout.specs.Layout.{bytesOf, bookOf}
-use Rattle.layout.specs.Sound.{isSound}
+use Rattle.layout.specs.Tests.{isSound}
 use Rattle.layout.specs.Rule.{Does}
 use Rattle.layout.specs.Lies.{Lies}
 use Rattle.layout.specs.declared.Reply.{Reply}

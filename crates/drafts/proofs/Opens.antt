@@ -17,7 +17,7 @@ use Rattle.blocks.proofs.Numbers.{Bytes}
 use Rattle.steps.specs.Book.{Draft, closed, working, Book, orClosed, put, draftAt}
 use Rattle.steps.specs.Calls.{Call, opening, draft, refused, lowest, opens, withDrafts, step}
 use Rattle.layout.specs.Layout.{draftOf, bytesOf, bookOf}
-use Rattle.layout.specs.Sound.{isSound}
+use Rattle.layout.specs.Tests.{isSound}
 use Rattle.layout.specs.Rule.{Does}
 use Rattle.layout.specs.Lies.{Lies}
 use Rattle.layout.specs.declared.Reply.{Reply}

@@ -18,7 +18,7 @@ use Rattle.blocks.proofs.Numbers.{Bytes}
 use Rattle.steps.specs.Book.{Copy, Draft, working, Book, at, put, draftAt}
 use Rattle.steps.specs.Calls.{on, taking, done, Answer, refused, copyOf, takes, works, ranged, work, acts, withDrafts, step}
 use Rattle.layout.specs.Layout.{copiesOf, copiesAt, bytesOf, bookOf}
-use Rattle.layout.specs.Sound.{isSound}
+use Rattle.layout.specs.Tests.{isSound}
 use Rattle.layout.specs.Rule.{paperReply, Does}
 use Rattle.layout.specs.Lies.{Lies}
 use Rattle.layout.specs.declared.Reply.{Reply}

@@ -8,7 +8,7 @@ ghost use Rattle.steps.specs.Book.{draftAt};
 ghost use Rattle.steps.specs.Calls.{on, editing, readPurge, readCount, readPlace, taking, opening, lowest};
 ghost use Rattle.layout.specs.Layout.{bookOf, copiesOf};
 ghost use Rattle.layout.specs.Rule.{onBytes, paperReply, Does};
-ghost use Rattle.layout.specs.Sound.{isSound};
+ghost use Rattle.layout.specs.Tests.{isSound};
 ghost use Rattle.drafts.specs.Opening.{paperLowest};
 ghost use Rattle.steps.specs.Calls as calls;
 use copies::Found;

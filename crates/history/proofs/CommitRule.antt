@@ -17,7 +17,8 @@ use Rattle.steps.specs.Book.{Copy, Draft, closed, working, Book, orClosed, draf
 use Rattle.refusal.specs.Answer.{ok}
 use Rattle.steps.specs.Calls.{commit, changed, refused, changes, commits, step}
 use Rattle.layout.specs.Layout.{copiesAt, bookOf}
-use Rattle.layout.specs.Sound.{isSound, FineTaken, FineDraft, closed-fine, working-fine, Sound}
+use Rattle.layout.specs.Sound.{FineTaken, FineDraft, closed-fine, working-fine, Sound}
+use Rattle.layout.specs.Tests.{isSound}
 use Rattle.layout.specs.Lies.{Lies}
 use Rattle.layout.specs.Rule.{paperReply, Does}
 use Rattle.layout.specs.declared.Changed.{Changed}

@@ -13,7 +13,7 @@ use Rattle.blocks.proofs.Numbers.{Bytes}
 use Rattle.steps.specs.Book.{Copy, Book}
 use Rattle.steps.specs.Calls.{changed, refused, newest, older, undone, undoes, undo, step}
 use Rattle.layout.specs.Layout.{stepOf, bytesOf, bookOf}
-use Rattle.layout.specs.Sound.{isSound}
+use Rattle.layout.specs.Tests.{isSound}
 use Rattle.layout.specs.Lies.{Lies}
 use Rattle.layout.specs.Rule.{segmentsOf, Does, paperReply}
 use Rattle.layout.specs.declared.Changed.{Changed}

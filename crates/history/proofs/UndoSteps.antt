@@ -13,7 +13,7 @@ use Rattle.blocks.specs.Block.{blockCount}
 use Rattle.steps.specs.Book.{Copy, Book}
 use Rattle.steps.specs.Calls.{newest}
 use Rattle.layout.specs.Layout.{partOf, heldIn, copiesAt, stepOf, bookOf}
-use Rattle.layout.specs.Sound.{isSound}
+use Rattle.layout.specs.Tests.{isSound}
 use Rattle.layout.proofs.Says.{StepSays, single, pair}
 use Rattle.layout.proofs.Parts.{Parts, sound-parts, step-cases}
 use Rattle.layout.proofs.Said.{copyAt, copies-one, copies-two, segments-length, steps-length, step-of}

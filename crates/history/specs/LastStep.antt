@@ -5,7 +5,7 @@ use mathlib.Core.Bool.{true}
 use mathlib.Core.List.{List}
 use lib.ListN.{getD}
 use Rattle.steps.specs.Calls.{stepsMost}
-use Rattle.layout.specs.Sound.{isSound}
+use Rattle.layout.specs.Tests.{isSound}
 
 -- step r, counted from 0, is the newest
 pub record LastStep (l : List ℕ) (r : ℕ) : Type 0 where

@@ -6,7 +6,7 @@ use Prim.Native.Nat.{ℕ}
 use Rattle.blocks.proofs.Numbers.{Bytes}
 use Rattle.steps.specs.Calls.{Call, Answer, step}
 use Rattle.layout.specs.Layout.{bookOf}
-use Rattle.layout.specs.Sound.{isSound}
+use Rattle.layout.specs.Tests.{isSound}
 use Rattle.layout.specs.Rule.{onBytes}
 use Rattle.layout.proofs.Parts.{sound-parts}
 use Rattle.layout.proofs.SoundBack.{sound-book}

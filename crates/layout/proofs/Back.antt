@@ -16,7 +16,7 @@ use Rattle.blocks.proofs.Numbers.{Bytes, bytes-block}
 use Rattle.blocks.proofs.Contents.{content-back, unused-back}
 use Rattle.steps.specs.Book.{Copy, Draft}
 use Rattle.layout.specs.Layout.{copiesOf, orNone, heldOf, stepOf, partOf, heldIn, blockBytes, bytesOf, bookOf}
-use Rattle.layout.specs.Sound.{used, isGood, isSound}
+use Rattle.layout.specs.Tests.{used, isGood, isSound}
 use Rattle.layout.specs.Lies.{Lies}
 use Rattle.layout.proofs.Counted.{flat-back, count-self}
 use Rattle.layout.proofs.Parts.{Parts, sound-parts, draft-cases, step-cases}

@@ -19,7 +19,8 @@ use Rattle.steps.specs.Book.{closed, Book}
 use Rattle.steps.specs.Calls.{stepsMost}
 use Rattle.layout.specs.Layout.{draftBytes, stepBytes, partOf, indexBytes, blockBytes, bytesOf}
 use Rattle.laws.proofs.Tables.{every}
-use Rattle.layout.specs.Sound.{isIssue, isDraftAt, isStepAt, isIndex, used, isGood, isSound, Sound}
+use Rattle.layout.specs.Sound.{isIssue, Sound}
+use Rattle.layout.specs.Tests.{isDraftAt, isStepAt, isIndex, used, isGood, isSound}
 use Rattle.layout.proofs.Items.{every-upward}
 use Rattle.layout.proofs.ForthIndex.{index-length, index-issue, index-count, index-gap, index-draft, index-steps, index-mid, index-step, index-rest}
 use Rattle.layout.proofs.ForthBlocks.{block-at, bytes-length}

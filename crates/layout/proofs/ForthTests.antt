@@ -12,7 +12,8 @@ use Rattle.laws.proofs.Tests.{or-no}
 use Rattle.steps.specs.Book.{Copy, Draft, closed, working}
 use Rattle.steps.specs.Calls.{has}
 use Rattle.layout.specs.Layout.{segmentOf, bit, draftBytes, stepBytes, segment, copiesOf}
-use Rattle.layout.specs.Sound.{isDraft, isStep, FineCopy, Distinct, first-once, UpCopies, one-up, FineDraft, working-fine, FineStep}
+use Rattle.layout.specs.Sound.{FineCopy, Distinct, first-once, UpCopies, one-up, FineDraft, working-fine, FineStep}
+use Rattle.layout.specs.Tests.{isDraft, isStep}
 use Rattle.layout.proofs.ForthSaid.{number-not}
 
 -- ---- tests

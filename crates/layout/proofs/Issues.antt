@@ -13,7 +13,8 @@ use Rattle.calendar.specs.declared.Windowed.{Windowed}
 use Rattle.calendar.specs.declared.Windowed.the-variants as windowed
 use Rattle.calendar.proofs.Windows.{window-tells, window-some}
 use Rattle.blocks.specs.Block.{numberAt, blockOf}
-use Rattle.layout.specs.Sound.{isIssue, isIndex}
+use Rattle.layout.specs.Sound.{isIssue}
+use Rattle.layout.specs.Tests.{isIndex}
 use Rattle.layout.proofs.Parts.{index-parts, number-0}
 
 -- the issue of a good block 0 is of the years 1970..2099

@@ -16,6 +16,7 @@ pub mod IndexBack
 pub mod Stands
 pub mod Back
 pub mod SoundBack
+pub mod SoundIff
 pub mod Issues
 pub mod Tests
 pub mod Rules

@@ -15,7 +15,8 @@ use Rattle.blocks.proofs.Blocks.{byte-of}
 use Rattle.blocks.proofs.Forms.{zero-in}
 use Rattle.steps.specs.Calls.{stepsMost}
 use Rattle.laws.proofs.Tables.{every}
-use Rattle.layout.specs.Sound.{isIssue, isDraftAt, isStepAt, isIndex, isGood, isSound}
+use Rattle.layout.specs.Sound.{isIssue}
+use Rattle.layout.specs.Tests.{isDraftAt, isStepAt, isIndex, isGood, isSound}
 use Rattle.layout.proofs.Counted.{every-up}
 use Rattle.layout.proofs.Says.{DraftSays, draft-says, StepSays, step-says}
 

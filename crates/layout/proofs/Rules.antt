@@ -12,7 +12,7 @@ use Rattle.blocks.proofs.Numbers.{Bytes}
 use Rattle.steps.specs.Book.{Book}
 use Rattle.steps.specs.Calls.{Call, Answer, refused, step}
 use Rattle.layout.specs.Layout.{bytesOf, bookOf}
-use Rattle.layout.specs.Sound.{isSound}
+use Rattle.layout.specs.Tests.{isSound}
 use Rattle.layout.specs.Rule.{onBytes, leaving, paperReply, Does}
 use Rattle.layout.specs.declared.Reply.{Reply}
 use Rattle.layout.proofs.Back.{sound-bytes}

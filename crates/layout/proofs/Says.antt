@@ -7,7 +7,7 @@ use native.Mathlib.Omega.{arith}
 use lib.Dec.{leb, ltb, eqb}
 use borrow.Author.Tests.{leb-true, ltb-true, eqb-true, eq-eqb, eqb-false, not-true}
 use Rattle.laws.proofs.Tests.{by, by-order, apart, impossible, and-left, and-right}
-use Rattle.layout.specs.Sound.{isDraft, isStep}
+use Rattle.layout.specs.Tests.{isDraft, isStep}
 
 -- ---- a draft's four bytes
 -- a closed draft; an open one that has taken nothing, one segment, or two

@@ -16,7 +16,8 @@ use Rattle.blocks.proofs.Numbers.{Bytes}
 use Rattle.steps.specs.Book.{Copy}
 use Rattle.steps.specs.Calls.{has}
 use Rattle.layout.specs.Layout.{copiesAt, draftOf, stepOf, bookOf}
-use Rattle.layout.specs.Sound.{isIssue, used, isSound, Fine, FineCopy, Distinct, none-twice, first-once, UpCopies, none-up, one-up, FineTaken, FineDraft, closed-fine, working-fine, FineStep, Sound}
+use Rattle.layout.specs.Sound.{isIssue, Fine, FineCopy, Distinct, none-twice, first-once, UpCopies, none-up, one-up, FineTaken, FineDraft, closed-fine, working-fine, FineStep, Sound}
+use Rattle.layout.specs.Tests.{used, isSound}
 use Rattle.layout.proofs.Counted.{count-all}
 use Rattle.layout.proofs.Says.{DraftSays, shut, bare, one, two, StepSays, single, pair}
 use Rattle.layout.proofs.Parts.{Parts, sound-parts, draft-cases, step-cases}

@@ -5,10 +5,10 @@ use Prim.Native.Nat.{ℕ, suc, _+_, _*_, _-_, _/_, _%_, _≤_, _<_}
 use native.Mathlib.Omega.{arith}
 use lib.ListN.{getD}
 use lib.Dec.{ltb, leb}
-use borrow.Author.Tests.{le-leb, lt-leb}
+use borrow.Author.Tests.{lt-ltb, le-ltb}
 use Rattle.laws.proofs.Tests.{by-order}
-use Rattle.layout.specs.Layout.{segment, copy, before, partOf}
-use Rattle.layout.specs.Sound.{used}
+use Rattle.layout.specs.Layout.{segment, copy, before, blockNumber, partOf}
+use Rattle.layout.specs.Tests.{used}
 
 -- ---- halves
 half : (m q r : ℕ) → m ≡ 2 * q + r → r < 2 → m / 2 ≡ q
@@ -18,43 +18,43 @@ odd : (m q r : ℕ) → m ≡ 2 * q + r → r < 2 → m % 2 ≡ r
 odd m q r e h = omega arith
 
 -- ---- segments
-pub part-segment : (s : ℕ) → s < 8 → partOf (suc s) ≡ segment s
+pub part-segment : (s : ℕ) → s < 8 → partOf (blockNumber (segment s)) ≡ segment s
 unfolding partOf
-part-segment s h = let e : suc s - 1 ≡ s = omega arith in rw (le-leb (suc s) 8 (omega arith), e)
+part-segment s h = let e : suc s - 1 ≡ s = omega arith in rw (lt-ltb (suc s) 9 (omega arith), e)
 
 pub used-segment : (l : List ℕ) (s : ℕ) → s < 8 → used l (suc s) ≡ leb (suc s) (getD l 4 0)
 unfolding used
-used-segment l s h = rw (le-leb (suc s) 8 (omega arith))
+used-segment l s h = rw (lt-ltb (suc s) 9 (omega arith))
 
 -- ---- copies: copy r of draft d, both counted from 0
-pub part-copy : (d r : ℕ) → d < 4 → r < 2 → partOf (9 + 2 * d + r) ≡ copy d r
+pub part-copy : (d r : ℕ) → d < 4 → r < 2 → partOf (blockNumber (copy d r)) ≡ copy d r
 unfolding partOf
 part-copy d r h g =
     let k : ℕ = 9 + 2 * d + r in
     let e : k - 9 ≡ 2 * d + r = omega arith in
-    rw (lt-leb k 8 (omega arith), le-leb k 16 (omega arith), half (k - 9) d r e g, odd (k - 9) d r e g)
+    rw (le-ltb k 9 (omega arith), lt-ltb k 17 (omega arith), half (k - 9) d r e g, odd (k - 9) d r e g)
 
 pub used-copy : (l : List ℕ) (d r : ℕ) → d < 4 → r < 2 → used l (9 + 2 * d + r) ≡ ltb 0 (getD l (9 + 4 * d + r) 0)
 unfolding used
 used-copy l d r h g =
     let k : ℕ = 9 + 2 * d + r in
     let e : k - 9 ≡ 2 * d + r = omega arith in
-    rw (lt-leb k 8 (omega arith), le-leb k 16 (omega arith), half (k - 9) d r e g, odd (k - 9) d r e g)
+    rw (le-ltb k 9 (omega arith), lt-ltb k 17 (omega arith), half (k - 9) d r e g, odd (k - 9) d r e g)
 
 -- ---- steps: block r of step s, both counted from 0
-pub part-before : (s r : ℕ) → r < 2 → partOf (17 + 2 * s + r) ≡ before s r
+pub part-before : (s r : ℕ) → r < 2 → partOf (blockNumber (before s r)) ≡ before s r
 unfolding partOf
 part-before s r g =
     let k : ℕ = 17 + 2 * s + r in
     let e : k - 17 ≡ 2 * s + r = omega arith in
-    rw (lt-leb k 8 (omega arith), lt-leb k 16 (omega arith), half (k - 17) s r e g, odd (k - 17) s r e g)
+    rw (le-ltb k 9 (omega arith), le-ltb k 17 (omega arith), half (k - 17) s r e g, odd (k - 17) s r e g)
 
 pub used-before : (l : List ℕ) (s r : ℕ) → used l (17 + 2 * s + r) ≡ ltb 0 (getD l (32 + 2 * s + r) 0)
 unfolding used
 used-before l s r =
     let k : ℕ = 17 + 2 * s + r in
     let e : 15 + k ≡ 32 + 2 * s + r = omega arith in
-    rw (lt-leb k 8 (omega arith), lt-leb k 16 (omega arith), e)
+    rw (le-ltb k 9 (omega arith), le-ltb k 17 (omega arith), e)
 
 -- ---- what holds of every segment's, copy's and step's block holds of blocks 1..48
 module _ (P : ℕ → Type 0) (one : (s : ℕ) → s < 8 → P (suc s)) (two : (d r : ℕ) → d < 4 → r < 2 → P (9 + 2 * d + r))

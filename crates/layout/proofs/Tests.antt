@@ -15,7 +15,8 @@ use Rattle.blocks.specs.Block.{numberAt, blockOf, bookLength}
 use Rattle.blocks.specs.Content.{isUsed, isUnused}
 use Rattle.steps.specs.Calls.{stepsMost}
 use Rattle.laws.proofs.Tables.{every}
-use Rattle.layout.specs.Sound.{isIssue, isIndex, used, isGood, isSound}
+use Rattle.layout.specs.Sound.{isIssue}
+use Rattle.layout.specs.Tests.{isIndex, used, isGood, isSound}
 
 -- ---- a test of all numbers from one on
 upward-step : (i n : ℕ) → i < n → upward i (n - i) ≡ i ∷ upward (i + 1) (n - (i + 1))

@@ -4,7 +4,7 @@ use mathlib.Core.Bool.{Bool, true, false, cond}
 use mathlib.Core.List.{List, [], _∷_, _++_, map}
 use mathlib.Core.Option.{Option, none, some}
 use lib.ListN.{length, getD, getElem?, replicate}
-use lib.Dec.{leb, eqb}
+use lib.Dec.{ltb, eqb}
 use Rattle.codes.specs.Places.{upward}
 use Rattle.codes.specs.Block.{Content}
 use Rattle.blocks.specs.Block.{blockCount, bytes32, numberAt, flat, sealed, blockOf}
@@ -49,10 +49,23 @@ pub data Part : Type 0 where
   copy : ℕ → ℕ → Part
   before : ℕ → ℕ → Part
 
+-- The numbering, said once: the first of a draft's two blocks and of a step's, and with these the block of each part.
+abbrev pub copiesFrom : ℕ → ℕ
+copiesFrom d = 9 + 2 * d
+
+abbrev pub beforesFrom : ℕ → ℕ
+beforesFrom s = 17 + 2 * s
+
+abbrev pub blockNumber : Part → ℕ
+blockNumber (segment n) = suc n
+blockNumber (copy d n) = copiesFrom d + n
+blockNumber (before s n) = beforesFrom s + n
+
+-- the part that block k is for: the one of that number (layout/proofs/Stands: part-segment, part-copy, part-before)
 unfoldable pub partOf : ℕ → Part
 partOf k =
-    cond (leb k 8) (segment (k - 1))
-    (cond (leb k 16) (copy ((k - 9) / 2) ((k - 9) % 2)) (before ((k - 17) / 2) ((k - 17) % 2)))
+    cond (ltb k (copiesFrom 0)) (segment (k - 1))
+    (cond (ltb k (beforesFrom 0)) (copy ((k - copiesFrom 0) / 2) ((k - copiesFrom 0) % 2)) (before ((k - beforesFrom 0) / 2) ((k - beforesFrom 0) % 2)))
 
 abbrev pub copiesOf : Draft → List Copy
 copiesOf closed = []
@@ -90,10 +103,10 @@ copiesAt l first second k =
 unfoldable pub draftOf : List ℕ → ℕ → Draft
 draftOf l d =
     cond (eqb (getD l (8 + 4 * d) 0) 0) closed
-    (working (copiesAt l (getD l (9 + 4 * d) 0) (getD l (10 + 4 * d) 0) (9 + 2 * d)) (eqb (getD l (11 + 4 * d) 0) 1))
+    (working (copiesAt l (getD l (9 + 4 * d) 0) (getD l (10 + 4 * d) 0) (copiesFrom d)) (eqb (getD l (11 + 4 * d) 0) 1))
 
 unfoldable pub stepOf : List ℕ → ℕ → List Copy
-stepOf l s = copiesAt l (getD l (32 + 2 * s) 0) (getD l (33 + 2 * s) 0) (17 + 2 * s)
+stepOf l s = copiesAt l (getD l (32 + 2 * s) 0) (getD l (33 + 2 * s) 0) (beforesFrom s)
 
 unfoldable pub bookOf : List ℕ → Book
 bookOf l =

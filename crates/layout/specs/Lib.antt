@@ -1,4 +1,5 @@
 pub mod Layout
 pub mod Sound
+pub mod Tests
 pub mod Rule
 pub mod Lies

@@ -1,4 +1,4 @@
--- What the code keeps true while it changes a book in place: block 0 may still want its check.
+-- Serves the code: what it keeps true while it changes a book in place: block 0 may still want its check.
 use Prim.Native.Nat.{ℕ, suc, _≤_, _<_}
 use mathlib.Core.Path.{_≡_}
 use mathlib.Core.List.{List}

@@ -11,7 +11,7 @@ use Rattle.blocks.specs.Block.{bookLength}
 use Rattle.steps.specs.Book.{Book}
 use Rattle.steps.specs.Calls.{Call, Answer, refused, step, draft, done, number, was, changed}
 use Rattle.layout.specs.Layout.{bytesOf, bookOf}
-use Rattle.layout.specs.Sound.{isSound}
+use Rattle.layout.specs.Tests.{isSound}
 use Rattle.layout.specs.declared.Changed.{Changed}
 use Rattle.layout.specs.declared.Changed.the-variants.{Nothing, One, Two}
 use Rattle.layout.specs.declared.Reply.{Reply}

@@ -10,7 +10,8 @@ ghost use Rattle.codes.specs.Places.{upward};
 ghost use Rattle.blocks.specs.Block.{blockLength, blockCount, bookLength, numberAt};
 ghost use Rattle.steps.specs.Calls.{stepsMost};
 ghost use Rattle.laws.proofs.Tables.{every};
-ghost use Rattle.layout.specs.Sound.{isIssue, isDraft, isStep, isDraftAt, isStepAt, isIndex, used, isGood, isSound};
+ghost use Rattle.layout.specs.Sound.{isIssue};
+ghost use Rattle.layout.specs.Tests.{isDraft, isStep, isDraftAt, isStepAt, isIndex, used, isGood, isSound};
 
 // Segments that changed, ascending.
 pub enum Changed {
@@ -144,11 +145,11 @@ fn is_used_block(book: &[u8], k: usize) -> bool
     requires { ⌜ (length (now book) ≡ bookLength) × (k < blockCount) ⌝ }
     ensures { λ r. ⌜ r ≡ used (now (book .entry)) k ⌝ }
 {
-    if k <= 8 {
+    if k < 9 {
         let n = blocks::size(book[4]);
         return k <= n;
     }
-    if k <= 16 {
+    if k < 17 {
         let taken = blocks::size(book[9 + 4 * ((k - 9) / 2) + (k - 9) % 2]);
         return 0 < taken;
     }

@@ -7,7 +7,7 @@ use mathlib.Core.List.{List, [], _∷_}
 use mathlib.Core.Option.{none}
 use lib.ListN.{length, getElem?, set, replicate, length-set, take-append-drop}
 use lib.Seq.{sets}
-use borrow.Author.Tests.{le-leb, lt-leb}
+use borrow.Author.Tests.{lt-ltb, le-ltb}
 use Rattle.laws.proofs.Tests.{by-order}
 use Rattle.laws.proofs.Lookups.{get-none}
 use Rattle.codes.specs.Block.{Content}
@@ -41,8 +41,8 @@ behind : (k : ℕ) → 8 ≤ k → Behind (partOf (suc k))
 unfolding partOf
 behind k h =
     by-order k 16
-    (λ g. rw (lt-leb (suc k) 8 (omega arith), le-leb (suc k) 16 (omega arith)) (of-draft ((suc k - 9) / 2) ((suc k - 9) % 2)))
-    (λ g. rw (lt-leb (suc k) 8 (omega arith), lt-leb (suc k) 16 (omega arith)) (of-step ((suc k - 17) / 2) ((suc k - 17) % 2)))
+    (λ g. rw (le-ltb (suc k) 9 (omega arith), lt-ltb (suc k) 17 (omega arith)) (of-draft ((suc k - 9) / 2) ((suc k - 9) % 2)))
+    (λ g. rw (le-ltb (suc k) 9 (omega arith), le-ltb (suc k) 17 (omega arith)) (of-step ((suc k - 17) / 2) ((suc k - 17) % 2)))
 
 behind-none : (issue : ℕ) (cs : List Content) (p : Part) → Behind p → heldIn (newBook issue cs) p ≡ none
 unfolding heldIn

@@ -21,7 +21,7 @@ use Rattle.blocks.specs.declared.Held.{Held}
 use Rattle.blocks.proofs.Contents.{used-true}
 use Rattle.steps.specs.Book.{at}
 use Rattle.layout.specs.Layout.{bookOf}
-use Rattle.layout.specs.Sound.{used, isSound}
+use Rattle.layout.specs.Tests.{used, isSound}
 use Rattle.layout.proofs.Parts.{sound-parts}
 use Rattle.layout.proofs.Said.{segment-of, segment-past}
 use Rattle.layout.proofs.Stands.{used-segment}

@@ -16,7 +16,7 @@ use Rattle.bulletin.specs.Bulletin.{Bulletin, readBulletin}
 use Rattle.blocks.specs.Block.{bookLength}
 use Rattle.steps.specs.Book.{Book, at, newBook}
 use Rattle.layout.specs.Layout.{bytesOf, bookOf}
-use Rattle.layout.specs.Sound.{isSound}
+use Rattle.layout.specs.Tests.{isSound}
 
 -- ---- "Make: from text, year and month, no drafts, no steps, into a lent book whose old bytes do not matter; its refusals are reading's, with 1 for either length."
 abbrev pub bookFrom : Bulletin → Book

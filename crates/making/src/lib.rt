@@ -7,7 +7,7 @@ ghost use lib.ListN.{length};
 ghost use Rattle.laws.proofs.Lists.{All};
 ghost use Rattle.blocks.specs.Block.{bookLength};
 ghost use Rattle.bulletin.specs.Seen.{listOf, Sized};
-ghost use Rattle.layout.specs.Sound.{isSound};
+ghost use Rattle.layout.specs.Tests.{isSound};
 ghost use Rattle.making.specs.Fill.{contentsFrom, Filled, Storable, Indexed};
 ghost use Rattle.making.specs.Make.{Makes, WritesOn};
 use bulletin::Reading;

@@ -1,11 +1,11 @@
 -- The parts that blocks hold, and what they hold after a change of one draft. Assumes nothing.
 use mathlib.Core.Path.{_≡_, refl, ap, _∙_}
 use mathlib.Core.Option.{Option}
-use Prim.Native.Nat.{ℕ, _+_, _*_, _-_, _/_, _%_, _<_}
+use Prim.Native.Nat.{ℕ, _+_, _*_, _-_, _/_, _%_, _≤_, _<_}
 use native.Mathlib.Omega.{arith}
 use lib.ListN.{length, getElem?, set}
-use lib.Dec.{eqb, leb}
-use borrow.Author.Tests.{eqb-true, eqb-false, leb-false}
+use lib.Dec.{eqb, ltb}
+use borrow.Author.Tests.{eqb-true, eqb-false, ltb-false}
 use Rattle.laws.proofs.Tests.{by, apart}
 use Rattle.laws.proofs.Lookups.{get-same, get-other}
 use Rattle.steps.specs.Book.{Draft, Book, orClosed}
@@ -27,14 +27,14 @@ second-of (before s n) = 0
 pub block-of-copy : (i k n : ℕ) → partOf i ≡ copy k n → (i ≡ 9 + 2 * k + n) × (n < 2)
 unfolding partOf
 block-of-copy i k n e =
-    by (leb i 8)
+    by (ltb i 9)
     (λ t. let q : segment (i - 1) ≡ copy k n = rw t at e in apart cc)
-    (λ t. by (leb i 16)
+    (λ t. by (ltb i 17)
     (λ u.
     let q : copy ((i - 9) / 2) ((i - 9) % 2) ≡ copy k n = rw (t, u) at e in
     let half : (i - 9) / 2 ≡ k = ap first-of q in
     let odd : (i - 9) % 2 ≡ n = ap second-of q in
-    let low : 8 < i = leb-false i 8 t in
+    let low : 9 ≤ i = ltb-false i 9 t in
     (omega arith, omega arith))
     (λ u. let q : before ((i - 17) / 2) ((i - 17) % 2) ≡ copy k n = rw (t, u) at e in apart cc))
 

@@ -23,7 +23,8 @@ use Rattle.blocks.proofs.Contents.{purge-32}
 use Rattle.steps.specs.Book.{Copy, Draft, closed, working, Book, at, draftAt}
 use Rattle.steps.specs.Calls.{Value, draft, done, number, was, changed, Edit, readPurge, readCount, readPlace, add, remove, setPurge, Work, taking, editing, Call, opening, on, commit, drop, undo, Answer, refused, member, placeAt, adding, removing, purging, edited, inRange, copyOf, takes, works, ranged, work, changes, numbers, lowest, opens, acts, commits, drops, newest, undoes, step}
 use Rattle.layout.specs.Layout.{bookOf}
-use Rattle.layout.specs.Sound.{isSound, Fine, FineCopy, FineDraft, working-fine, Sound}
+use Rattle.layout.specs.Sound.{Fine, FineCopy, FineDraft, working-fine, Sound}
+use Rattle.layout.specs.Tests.{isSound}
 use Rattle.layout.specs.Rule.{onBytes}
 use Rattle.layout.proofs.Rules.{rule-short, rule-unsound, rule-sound}
 use Rattle.layout.proofs.SoundBack.{sound-book}

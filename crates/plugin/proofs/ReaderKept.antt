@@ -25,7 +25,8 @@ use Rattle.blocks.specs.Content.{isContent}
 use Rattle.blocks.proofs.Contents.{purge-32}
 use Rattle.steps.specs.Book.{Book, at}
 use Rattle.steps.specs.Calls.{number}
-use Rattle.layout.specs.Sound.{isSound, Fine}
+use Rattle.layout.specs.Sound.{Fine}
+use Rattle.layout.specs.Tests.{isSound}
 use Rattle.layout.specs.Layout.{bookOf}
 use Rattle.layout.proofs.Forth.{issue-low}
 use Rattle.codes.proofs.Sets.{set-true}

@@ -3,7 +3,7 @@ use native.Mathlib.Omega.{arith}
 use borrow.Author.Needs.{needs}
 use Rattle.codes.specs.Places.{upward}
 use Rattle.laws.proofs.Tables.{every}
-use Rattle.layout.specs.Sound.{isGood}
+use Rattle.layout.specs.Tests.{isGood}
 use Rattle.layout.proofs.Issues.{window-there, window-told}
 use Rattle.layout.proofs.Tests.{Scan, scan-start, scan-end, scan-no, scan-on}
 use Rattle.layout.proofs.are_good.Statement.{statement}

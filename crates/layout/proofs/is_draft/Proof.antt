@@ -1,5 +1,5 @@
 use borrow.Author.Tests.{ne-eqb}
-use Rattle.layout.specs.Sound.{isDraft}
+use Rattle.layout.specs.Tests.{isDraft}
 use Rattle.layout.proofs.is_draft.Statement.{statement}
 use Rattle.layout.proofs.is_draft.Tie as tie
 

@@ -1,4 +1,4 @@
-use Rattle.layout.specs.Sound.{isDraftAt}
+use Rattle.layout.specs.Tests.{isDraftAt}
 use borrow.Author.Needs.{needs}
 use Rattle.layout.proofs.is_draft_at.Statement.{statement}
 use Rattle.layout.proofs.is_draft_at.Tie as tie

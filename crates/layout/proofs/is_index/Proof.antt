@@ -1,4 +1,4 @@
-use Rattle.layout.specs.Sound.{isIndex}
+use Rattle.layout.specs.Tests.{isIndex}
 use Rattle.layout.proofs.Tests.{issue-is, index-many}
 use borrow.Author.Needs.{needs}
 use Rattle.layout.proofs.is_index.Statement.{statement}

@@ -1,5 +1,5 @@
 use mathlib.Core.Path.{refl}
-use Rattle.layout.specs.Sound.{isStep}
+use Rattle.layout.specs.Tests.{isStep}
 use Rattle.layout.proofs.is_step.Statement.{statement}
 use Rattle.layout.proofs.is_step.Tie as tie
 

@@ -1,4 +1,4 @@
-use Rattle.layout.specs.Sound.{isStepAt}
+use Rattle.layout.specs.Tests.{isStepAt}
 use borrow.Author.Needs.{needs}
 use Rattle.layout.proofs.is_step_at.Statement.{statement}
 use Rattle.layout.proofs.is_step_at.Tie as tie
