@@ -1,4 +1,4 @@
--- Document 01, "Numbered refusals": what every work of a draft on a segment asks first.
+-- Serves the code: what every work of a draft on a segment asks first, of the refusals that document 01 numbers.
 use Prim.Native.Nat.{ℕ}
 use mathlib.Core.Bool.{Bool, true, false}
 use mathlib.Core.List.{List}

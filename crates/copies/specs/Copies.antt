@@ -1,4 +1,4 @@
--- Document 01: "only a taken segment has a copy to work on". Where that copy stands.
+-- Serves the code: where the copy of a segment stands. Document 01: "only a taken segment has a copy to work on".
 use Prim.Native.Nat.{ℕ, suc, _+_, _*_, _≤_}
 use mathlib.Core.Path.{_≡_}
 use mathlib.Core.Bool.{true, cond}

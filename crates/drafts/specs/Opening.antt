@@ -1,4 +1,4 @@
--- Document 01: "Open: gives the lowest closed number 1..4". The code's answer as this paper's.
+-- Serves the code: the lowest closed draft as this paper's. Document 01: "Open: gives the lowest closed number 1..4".
 use Prim.Native.Nat.{ℕ}
 use mathlib.Core.Option.{Option, none, some}
 use Rattle.drafts.specs.declared.Lowest.{Lowest}

@@ -23,8 +23,10 @@ same-length c = search needs
 
 returns-2 : tie.Need-returns-2
 returns-2 c =
-    let s = c .before .before .before .before .before .before .args in
-    commit-unsound (s .book .now) (s .d) (c .refused2 .result) (omega arith) (sym (c .before .before .is-sound .ensures) ∙ not-true _ (c .before .if2 .taken)) (c .refused2 .ensures)
+    let on4 = c .before .before .before .before in
+    let s = on4 .before .before .args in
+    commit-unsound (s .book .now) (s .d) (c .refused2 .result) (omega arith)
+    (sym (c .before .before .is-sound .ensures) ∙ not-true _ (c .before .if2 .taken)) (c .refused2 .ensures)
 
 commit-sound-requires : tie.Need-commit-sound-requires
 commit-sound-requires c κs = (omega arith, sym (c .before .before .is-sound .ensures) ∙ not-false _ (c .before .if2 .left))

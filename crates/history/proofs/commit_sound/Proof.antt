@@ -83,7 +83,8 @@ returns-4 c =
     let l = start .args .book .now in
     let y : Bytes l = λ i. omega (arith, at-slice-known .slice-known .given i) in
     commit-stale l (start .args .d) (c .refused4 .result) y (start .pre .0) (start .pre .1) (omega arith) (omega arith)
-    (at-size .size .result) (at-size2 .size2 .result) (at-size .size .ensures .0) (at-if3 .if3 .left) (at-size2 .size2 .ensures .0) (at-if4 .if4 .taken) (c .refused4 .ensures)
+    (at-size .size .result) (at-size2 .size2 .result) (at-size .size .ensures .0) (at-if3 .if3 .left) (at-size2 .size2 .ensures .0) (at-if4 .if4 .taken)
+    (c .refused4 .ensures)
 
 changes-in-requires : tie.Need-changes-in-requires
 changes-in-requires c κs =
@@ -92,7 +93,8 @@ changes-in-requires c κs =
     let start = on2 .before .before in
     let l = start .args .book .now in
     let d = start .args .d in
-    (start .pre .0, omega arith, omega arith, first-low l d (start .pre .1) (omega arith) (omega arith), second-low l d (start .pre .1) (omega arith) (omega arith))
+    (start .pre .0, omega arith, omega arith, first-low l d (start .pre .1) (omega arith) (omega arith), second-low l d (start .pre .1) (omega arith)
+    (omega arith))
 
 commit-found-requires : tie.Need-commit-found-requires
 commit-found-requires c κs =
@@ -101,7 +103,8 @@ commit-found-requires c κs =
     let on2 = on1 .before .before .before .before in
     let start = on2 .before .before .before in
     let l = start .args .book .now in
-    (start .pre .0, omega arith, omega arith, steps-low l (start .pre .1), found-placed l (start .args .d) _ (start .pre .1) (omega arith) (omega arith) (at-changes-in .changes-in .ensures))
+    (start .pre .0, omega arith, omega arith, steps-low l (start .pre .1), found-placed l (start .args .d) _ (start .pre .1) (omega arith) (omega arith)
+    (at-changes-in .changes-in .ensures))
 
 same-length : tie.Need-same-length
 same-length c = search needs
@@ -119,7 +122,8 @@ returns-5 c =
     let start = at-slice-known .before in
     let l = start .args .book .now in
     let y : Bytes l = λ i. omega (arith, at-slice-known .slice-known .given i) in
-    commit-done l _ (start .args .d) (at-changes-in .changes-in .result) (at-commit-found .commit-found .result) y (start .pre .0) (start .pre .1) (omega arith) (omega arith)
+    commit-done l _ (start .args .d) (at-changes-in .changes-in .result) (at-commit-found .commit-found .result) y (start .pre .0) (start .pre .1)
+    (omega arith) (omega arith)
     (at-size .size .result) (at-size2 .size2 .result) (at-size .size .ensures .0) (at-if3 .if3 .left) (at-size2 .size2 .ensures .0) (at-if4 .if4 .left)
     (at-changes-in .changes-in .ensures) (at-commit-found .commit-found .ensures)
 

@@ -14,8 +14,10 @@ same-length c = search needs
 
 returns : tie.Need-returns
 returns c =
-    let s = c .before .before .before .before .before .before .before .before .before .args in
-    finish-done (s .book .now) _ _ (s .d) (c .before .before .before .before .before .before .close-draft .ensures) (c .before .before .seal-index .ensures)
+    let on4 = c .before .before .before .before in
+    let on8 = on4 .before .before .before .before in
+    let s = on8 .before .args in
+    finish-done (s .book .now) _ _ (s .d) (on4 .before .before .close-draft .ensures) (c .before .before .seal-index .ensures)
 
 pub finish-spec : {M : Type 1} → statement M
 finish-spec = tie.close (tie.spec close-draft-requires seal-index-requires same-length returns)

@@ -53,7 +53,8 @@ returns-3 c =
     let at-found2 = at-put-segment2 .before .before .before in
     let start = at-found2 .before .before .before in
     let told = at-found2 .found2 .given .1 in
-    put-two _ _ _ (start .args .found) _ _ _ _ told (first-placing _ (start .pre .1) _ _ _ _ told .low) (at-put-segment2 .put-segment2 .ensures) (at-put-segment3 .put-segment3 .ensures)
+    put-two _ _ _ (start .args .found) _ _ _ _ told (first-placing _ (start .pre .1) _ _ _ _ told .low) (at-put-segment2 .put-segment2 .ensures)
+    (at-put-segment3 .put-segment3 .ensures)
 
 pub put-blocks-spec : {M : Type 1} → statement M
 put-blocks-spec =

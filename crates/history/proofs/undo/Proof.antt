@@ -35,7 +35,8 @@ returns-2 c =
     let at-is-sound = at-if2 .before in
     let at-if1 = at-is-sound .before .before in
     let start = at-if1 .before .before in
-    does-unsound (start .args .book .now) undo _ (at-if1 .if1 .left) (sym (at-is-sound .is-sound .ensures) ∙ not-true _ (at-if2 .if2 .taken)) (ap paperReply (c .refused2 .ensures))
+    does-unsound (start .args .book .now) undo _ (at-if1 .if1 .left) (sym (at-is-sound .is-sound .ensures) ∙ not-true _ (at-if2 .if2 .taken))
+    (ap paperReply (c .refused2 .ensures))
 
 slice-read-size : tie.Need-slice-read-size
 slice-read-size c = search needs
@@ -61,7 +62,8 @@ returns-3 c =
     let start = at-slice-known .before in
     let l = start .args .book .now in
     let y : Bytes l = λ i. omega (arith, at-slice-known .slice-known .given i) in
-    undo-none l _ y (at-if1 .if1 .left) (sym (at-is-sound .is-sound .ensures) ∙ not-false _ (at-if2 .if2 .left)) (sym (at-size .size .ensures .0) ∙ at-if3 .if3 .taken) (ap paperReply (c .refused3 .ensures))
+    undo-none l _ y (at-if1 .if1 .left) (sym (at-is-sound .is-sound .ensures) ∙ not-false _ (at-if2 .if2 .left))
+    (sym (at-size .size .ensures .0) ∙ at-if3 .if3 .taken) (ap paperReply (c .refused3 .ensures))
 
 sub-undo-step : tie.Need-sub-undo-step
 sub-undo-step c = search needs
@@ -74,7 +76,8 @@ undo-step-requires c κs =
     let at-is-sound = at-if2 .before in
     let at-if1 = at-is-sound .before .before in
     let start = at-if1 .before .before in
-    (at-if1 .if1 .left, last-step (start .args .book .now) _ _ (sym (at-is-sound .is-sound .ensures) ∙ not-false _ (at-if2 .if2 .left)) (at-size .size .ensures .0) (at-if3 .if3 .left) refl)
+    (at-if1 .if1 .left, last-step (start .args .book .now) _ _ (sym (at-is-sound .is-sound .ensures) ∙ not-false _ (at-if2 .if2 .left))
+    (at-size .size .ensures .0) (at-if3 .if3 .left) refl)
 
 same-length-3 : tie.Need-same-length-3
 same-length-3 c = search needs

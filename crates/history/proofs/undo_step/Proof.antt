@@ -50,7 +50,8 @@ returns c =
     let start = at-slice-known .before in
     let l = start .args .book .now in
     let y : Bytes l = λ i. omega (arith, at-slice-known .slice-known .given i) in
-    step-gone l (start .args .r) y (start .pre .1) _ (at-step-at .step-at .ensures) _ _ _ _ (at-replace .replace .ensures) (at-pop-step .pop-step .ensures) (at-seal-index .seal-index .ensures)
+    step-gone l (start .args .r) y (start .pre .1) _ (at-step-at .step-at .ensures) _ _ _ _ (at-replace .replace .ensures) (at-pop-step .pop-step .ensures)
+    (at-seal-index .seal-index .ensures)
     (c .segments .ensures)
 
 pub undo-step-spec : {M : Type 1} → statement M
