@@ -4,6 +4,7 @@ use native.Mathlib.Omega.{arith}
 use mathlib.Core.Path.{_≡_, refl, sym, ap, _∙_}
 use mathlib.Core.List.{List, [], _∷_}
 use mathlib.Core.Bool.{Bool, true, false, cond}
+use mathlib.Core.Option.{Option, none}
 use lib.ListN.{length, drop, length-drop}
 use borrow.Author.Tests.{eqb-true}
 use Rattle.laws.proofs.Tests.{by, impossible, apart, and-left}
@@ -18,8 +19,8 @@ use Rattle.lines.specs.declared.Lined.the-variants as lined
 use Rattle.lines.proofs.Ends.{endOf, lineAt, lines-step, lines-last, found-none, found-here, found-end}
 use Rattle.lines.proofs.Strings.{exactly-is}
 use Rattle.heading.specs.Storm as storm
-use Rattle.heading.specs.Storm.{isOffice, stormForm, namesStorm, stormOf}
-use Rattle.heading.specs.Paper.{paperNamed}
+use Rattle.heading.specs.Storm.{isOffice, stormForm, namesStorm, StormName, stormOf}
+use Rattle.heading.specs.Paper.{paperStorm, paperNamed}
 use Rattle.heading.specs.declared.Storm.{Storm}
 use Rattle.heading.specs.declared.Storm.the-variants as named
 use Rattle.heading.specs.declared.Named.{Named}
@@ -43,9 +44,9 @@ module _ (p : List ℕ → Bool) (s : List ℕ) (from : ℕ) (f : Found) (ef : f
   after-at i a q n e = rw (e, next-is s a, ← ef, q, lines-step s a ((rw q at i) .1))
 
 -- ---- the office line is the first line that is one or closes the block, if it does not close it
-firstStorm : List Line → Answer Storm
-firstStorm [] = ok named.None
-firstStorm (l ∷ ls) = cond (closes (l .body)) (ok named.None) (stormSaid l (stormOf (l .body)))
+firstStorm : List Line → Answer (Option StormName)
+firstStorm [] = ok none
+firstStorm (l ∷ ls) = cond (closes (l .body)) (ok none) (stormSaid l (stormOf (l .body)))
 
 office-is : (ls : List Line) → officeStorm (fromFirst isOffice (upToFirst closes ls)) ≡ firstStorm (fromFirst officeOrClose ls)
 unfolding fromFirst upToFirst firstStorm
@@ -75,7 +76,7 @@ module _ (s : List ℕ) (from : ℕ) (f : Found) (ef : foundLines s f ≡ fromFi
     body-is : lineAt s a .body ≡ line
     body-is = sym (body-of s a r er l el line en)
 
-    first-is : officeStorm (fromFirst isOffice (upToFirst closes (linesOn s from))) ≡ cond t (ok named.None) (stormSaid (lineAt s a) (stormOf line))
+    first-is : officeStorm (fromFirst isOffice (upToFirst closes (linesOn s from))) ≡ cond t (ok none) (stormSaid (lineAt s a) (stormOf line))
     unfolding firstStorm
     first-is = office-is (linesOn s from) ∙ rw (← ef, q, lines-step s a ((rw q at i) .1), body-is, ← et)
 
@@ -89,7 +90,7 @@ module _ (s : List ℕ) (from : ℕ) (f : Found) (ef : foundLines s f ≡ fromFi
       pub storm-right : (x : Storm) → m ≡ naming.Right x → paperStormed (stormed.Right x) ≡ officeStorm (fromFirst isOffice (upToFirst closes (linesOn s from)))
       storm-right x y = sym (said-is ∙ ap (λ (k : Named). stormSaid (lineAt s a) (paperNamed k)) y ∙ plain x)
         where
-          plain : (x : Storm) → stormSaid (lineAt s a) (paperNamed (naming.Right x)) ≡ ok x
+          plain : (x : Storm) → stormSaid (lineAt s a) (paperNamed (naming.Right x)) ≡ ok (paperStorm x)
           plain named.None = refl
           plain (named.Found id) = refl
 

@@ -2,7 +2,7 @@
 use mathlib.Core.Path.{_≡_, refl, ap}
 use Rattle.laws.proofs.Tests.{apart}
 use Rattle.refusal.proofs.OneToOne.{refusal-one}
-use Rattle.heading.proofs.OneToOne.{heading-one}
+use Rattle.heading.proofs.OneToOne.{heading-one, storm-one}
 use Rattle.bulletin.specs.Seen.{listOf}
 use Rattle.bulletin.specs.Report.{reportOf, readingOf}
 use Rattle.bulletin.specs.declared.Segments.{Segments}
@@ -23,7 +23,8 @@ module _ (s t : Segments) where
   reading-one (Accepted h) (Accepted k) e =
       let p : reportOf h (listOf s) ≡ reportOf k (listOf t) = report-same h k e in
       let g : h .heading ≡ k .heading = heading-one (h .heading) (k .heading) (λ i. p i .heading) in
-      λ i. Accepted (record { heading = g i; identifier = p i .identifier; issue = p i .issue; storm = p i .storm })
+      let w : h .storm ≡ k .storm = storm-one (h .storm) (k .storm) (λ i. p i .storm) in
+      λ i. Accepted (record { heading = g i; identifier = p i .identifier; issue = p i .issue; storm = w i })
   reading-one (Accepted h) (Refused r) e = apart cc
   reading-one (Refused r) (Accepted h) e = apart cc
   reading-one (Refused r) (Refused q) e = ap Refused (refusal-one r q e refl)

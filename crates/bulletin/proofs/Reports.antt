@@ -3,6 +3,7 @@ use Prim.Native.Nat.{ℕ, zero, suc}
 use native.Mathlib.Omega.{arith}
 use mathlib.Core.Path.{_≡_, refl, sym, ap, _∙_}
 use mathlib.Core.List.{List, [], _∷_}
+use mathlib.Core.Option.{Option}
 use lib.ListN.{length, take}
 use Rattle.laws.proofs.Tests.{impossible, apart}
 use Rattle.refusal.specs.Numbers.{noSegment}
@@ -11,8 +12,8 @@ use Rattle.refusal.specs.declared.Refusal.{Refusal}
 use Rattle.refusal.specs.declared.Verdict.{Verdict}
 use Rattle.refusal.specs.declared.Verdict.the-variants as verdict
 use Rattle.lines.specs.Lines.{Line, blank}
-use Rattle.heading.specs.Paper.{paperHeading}
-use Rattle.heading.specs.Storm.{isOffice}
+use Rattle.heading.specs.Paper.{paperHeading, paperStorm}
+use Rattle.heading.specs.Storm.{isOffice, StormName}
 use Rattle.heading.specs.declared.Storm.{Storm}
 use Rattle.bulletin.specs.Search.{fromFirst, upToFirst, afterFirst, closes, linesOn}
 use Rattle.bulletin.specs.Mnd.{officeStorm, stormIn}
@@ -22,7 +23,7 @@ use Rattle.bulletin.specs.Bulletin as rule
 use Rattle.bulletin.specs.Bulletin.{readBulletin}
 use Rattle.bulletin.specs.Seen.{seenOf, seenFrom, listOf, Sized, ended, paperListed}
 use Rattle.bulletin.specs.Front.{paperStormed, paperStart, checked, Above, topOf, paperTopped}
-use Rattle.bulletin.specs.Report.{reported, reportOf, paperBulletin, someSeen, listedOf, headOf, belowOf}
+use Rattle.bulletin.specs.Report.{reported, reportOf, paperBulletin, someSeen, listedOf, headOf, belowTop, belowOf}
 use Rattle.bulletin.specs.Kept.{keptFrom, keptUnder}
 use Rattle.bulletin.specs.declared.Segment.{Segment}
 use Rattle.bulletin.specs.declared.Ending.{Ending}
@@ -40,24 +41,24 @@ use Rattle.bulletin.specs.declared.Reading.the-variants as reading
 use Rattle.bulletin.specs.declared.Bulletin.{Bulletin}
 
 -- ---- the segments
-some-taken : (stop : ℕ) (h : Head) (n : ℕ) (held : List Segment) → length held ≡ 8 → (n ≡ 0 → ⊥) → someSeen stop h (take n held) ≡ ok (reportOf h (take n held))
+some-taken : (stop : ℕ) (h : Head) (n : ℕ) (held : List Segment) → length held ≡ 8 → (n ≡ 0 → ⊥) → someSeen stop (reportOf h) (take n held) ≡ ok (reportOf h (take n held))
 some-taken stop h zero held l n = impossible (n refl)
 some-taken stop h (suc n) [] l k = impossible (omega arith)
 some-taken stop h (suc n) (g ∷ gs) l k = refl
 
 module _ (s : List ℕ) (from : ℕ) (h : Head) (l : Listed) (el : paperListed l ≡ seenFrom most s (h .issue) from) (z : Sized (l .segments)) where
-  listed-is : listedOf s from h ≡ andThen (paperListed l) (someSeen (length s) h)
+  listed-is : listedOf s from h ≡ andThen (paperListed l) (someSeen (length s) (reportOf h))
   unfolding listedOf
   listed-is = rw (← el)
 
   pub listed-refused : (r : Refusal) → l .ending ≡ ending.Refused r → paperBulletin (record { reading = reading.Refused r; segments = l .segments }) ≡ listedOf s from h
   unfolding andThen
-  listed-refused r q = sym (listed-is ∙ ap (λ (e : Ending). andThen (ended e (l .segments)) (someSeen (length s) h)) q)
+  listed-refused r q = sym (listed-is ∙ ap (λ (e : Ending). andThen (ended e (l .segments)) (someSeen (length s) (reportOf h))) q)
 
   module _ (q : l .ending ≡ ending.Whole) where
-    whole-is : listedOf s from h ≡ someSeen (length s) h (listOf (l .segments))
+    whole-is : listedOf s from h ≡ someSeen (length s) (reportOf h) (listOf (l .segments))
     unfolding andThen
-    whole-is = listed-is ∙ ap (λ (e : Ending). andThen (ended e (l .segments)) (someSeen (length s) h)) q
+    whole-is = listed-is ∙ ap (λ (e : Ending). andThen (ended e (l .segments)) (someSeen (length s) (reportOf h))) q
 
     pub listed-none : l .segments .count ≡ 0 → (b : Bulletin) → paperBulletin b ≡ paperRefusal (refusalFor noSegment (length s)) → paperBulletin b ≡ listedOf s from h
     listed-none z b e = e ∙ sym (whole-is ∙ rw z)
@@ -69,7 +70,7 @@ module _ (s : List ℕ) (from : ℕ) (h : Head) (l : Listed) (el : paperListed l
 module _ (s : List ℕ) (t : Top) (mnd : ℕ) (em : linesOn s mnd ≡ afterFirst blank (linesOn s (t .third))) (x : Stormed)
     (ex : paperStormed x ≡ officeStorm (fromFirst isOffice (upToFirst closes (linesOn s mnd)))) where
   below-is : belowOf s t
-      ≡ andThen (paperStormed x) (λ storm. andThen (fromLine3 (afterFirst closes (linesOn s mnd)) (length s) (linesOn s (t .third))) (λ ls. andThen (seenOf (segmentsFrom most s (t .issue) ls)) (someSeen (length s) (headOf t storm))))
+      ≡ andThen (paperStormed x) (λ storm. andThen (fromLine3 (afterFirst closes (linesOn s mnd)) (length s) (linesOn s (t .third))) (λ ls. andThen (seenOf (segmentsFrom most s (t .issue) ls)) (someSeen (length s) (belowTop t storm))))
   unfolding belowOf
   below-is = rw (ex, em)
 
@@ -79,17 +80,17 @@ module _ (s : List ℕ) (t : Top) (mnd : ℕ) (em : linesOn s mnd ≡ afterFirst
 
   module _ (storm : Storm) (q : x ≡ stormed.Right storm) (y : Start)
       (ey : paperStart s y ≡ fromLine3 (afterFirst closes (linesOn s mnd)) (length s) (linesOn s (t .third))) where
-    placed : belowOf s t ≡ andThen (paperStart s y) (λ ls. andThen (seenOf (segmentsFrom most s (t .issue) ls)) (someSeen (length s) (headOf t storm)))
+    placed : belowOf s t ≡ andThen (paperStart s y) (λ ls. andThen (seenOf (segmentsFrom most s (t .issue) ls)) (someSeen (length s) (belowTop t (paperStorm storm))))
     unfolding andThen
-    placed = below-is ∙ ap (λ (k : Stormed). andThen (paperStormed k) (λ storm. andThen (fromLine3 (afterFirst closes (linesOn s mnd)) (length s) (linesOn s (t .third))) (λ ls. andThen (seenOf (segmentsFrom most s (t .issue) ls)) (someSeen (length s) (headOf t storm))))) q ∙ rw (← ey)
+    placed = below-is ∙ ap (λ (k : Stormed). andThen (paperStormed k) (λ said. andThen (fromLine3 (afterFirst closes (linesOn s mnd)) (length s) (linesOn s (t .third))) (λ ls. andThen (seenOf (segmentsFrom most s (t .issue) ls)) (someSeen (length s) (belowTop t said))))) q ∙ rw (← ey)
 
     pub below-place : (r : Refusal) → y ≡ start.Refused r → (b : Bulletin) → paperBulletin b ≡ paperRefusal r → paperBulletin b ≡ belowOf s t
     unfolding andThen
-    below-place r z b e = e ∙ sym (placed ∙ ap (λ (k : Start). andThen (paperStart s k) (λ ls. andThen (seenOf (segmentsFrom most s (t .issue) ls)) (someSeen (length s) (headOf t storm)))) z)
+    below-place r z b e = e ∙ sym (placed ∙ ap (λ (k : Start). andThen (paperStart s k) (λ ls. andThen (seenOf (segmentsFrom most s (t .issue) ls)) (someSeen (length s) (belowTop t (paperStorm storm))))) z)
 
     pub below-listed : (a : ℕ) → y ≡ start.From a → (b : Bulletin) → paperBulletin b ≡ listedOf s a (headOf t storm) → paperBulletin b ≡ belowOf s t
     unfolding andThen listedOf
-    below-listed a z b e = e ∙ sym (placed ∙ ap (λ (k : Start). andThen (paperStart s k) (λ ls. andThen (seenOf (segmentsFrom most s (t .issue) ls)) (someSeen (length s) (headOf t storm)))) z)
+    below-listed a z b e = e ∙ sym (placed ∙ ap (λ (k : Start). andThen (paperStart s k) (λ ls. andThen (seenOf (segmentsFrom most s (t .issue) ls)) (someSeen (length s) (belowTop t (paperStorm storm))))) z)
 
 -- ---- the order, cut in three: the text, the top, and what is below
 then-then : {A B C : Type 0} (a : Answer A) (f : A → Answer B) (g : B → Answer C) → andThen (andThen a f) g ≡ andThen a (λ x. andThen (f x) g)
@@ -113,24 +114,24 @@ order s year month = simp (then-then, then-ok)
 
 -- ---- what is below, as the reader's answer has it
 module _ (stop : ℕ) (t : Top) where
-  abbrev told : Storm → List segments.Segment → Answer rule.Bulletin
+  abbrev told : Option StormName → List segments.Segment → Answer rule.Bulletin
   told storm gs = ok (record { heading = paperHeading (t .heading); identifier = t .identifier; issue = t .issue; storm = storm; segments = gs })
 
-  listed-seen : (storm : Storm) (z : Answer (List segments.Segment)) → reported (andThen (andThen z (segments.some stop)) (told storm)) ≡ andThen (seenOf z) (someSeen stop (headOf t storm))
+  listed-seen : (storm : Option StormName) (z : Answer (List segments.Segment)) → reported (andThen (andThen z (segments.some stop)) (told storm)) ≡ andThen (seenOf z) (someSeen stop (belowTop t storm))
   unfolding andThen
   listed-seen storm (ok []) = refl
   listed-seen storm (ok (x ∷ xs)) = refl
   listed-seen storm (no number place) = refl
 
-  placed-seen : (f : List Line → Answer (List segments.Segment)) (storm : Storm) (y : Answer (List Line))
-      → reported (andThen (andThen y (λ ls. andThen (f ls) (segments.some stop))) (told storm)) ≡ andThen y (λ ls. andThen (seenOf (f ls)) (someSeen stop (headOf t storm)))
+  placed-seen : (f : List Line → Answer (List segments.Segment)) (storm : Option StormName) (y : Answer (List Line))
+      → reported (andThen (andThen y (λ ls. andThen (f ls) (segments.some stop))) (told storm)) ≡ andThen y (λ ls. andThen (seenOf (f ls)) (someSeen stop (belowTop t storm)))
   unfolding andThen
   placed-seen f storm (ok ls) = listed-seen storm (f ls)
   placed-seen f storm (no number place) = refl
 
-  storm-seen : (f : List Line → Answer (List segments.Segment)) (y : Answer (List Line)) (x : Answer Storm)
+  storm-seen : (f : List Line → Answer (List segments.Segment)) (y : Answer (List Line)) (x : Answer (Option StormName))
       → reported (andThen x (λ storm. andThen (andThen y (λ ls. andThen (f ls) (segments.some stop))) (told storm)))
-      ≡ andThen x (λ storm. andThen y (λ ls. andThen (seenOf (f ls)) (someSeen stop (headOf t storm))))
+      ≡ andThen x (λ storm. andThen y (λ ls. andThen (seenOf (f ls)) (someSeen stop (belowTop t storm))))
   unfolding andThen
   storm-seen f y (ok storm) = placed-seen f storm y
   storm-seen f y (no number place) = refl
@@ -164,7 +165,7 @@ module _ (s : List ℕ) (year month : ℕ) (v : Verdict) (ev : paperVerdict v �
     read-whole t z b e = e ∙ sym (below-seen s t) ∙ sym (ap reported (topped-is ∙ ap (λ (k : Topped). andThen (paperTopped s k) (rest s)) z))
 
 -- ---- the issue that the places are kept under is the bulletin's
-rest-issue : (a : Above) (b : rule.Bulletin) (x : Answer Storm) (y : Answer (List segments.Segment))
+rest-issue : (a : Above) (b : rule.Bulletin) (x : Answer (Option StormName)) (y : Answer (List segments.Segment))
     → andThen x (λ storm. andThen y (λ gs. ok (record { heading = a .heading; identifier = a .identifier; issue = a .issue; storm = storm; segments = gs }))) ≡ ok b
     → a .issue ≡ b .issue
 unfolding andThen

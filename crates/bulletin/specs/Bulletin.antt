@@ -11,7 +11,7 @@ use Rattle.lines.specs.Lines.{Line, linesOf}
 use Rattle.lines.specs.Check.{checkText}
 use Rattle.calendar.specs.Calendar.{isIssueMonth, minuteOf}
 use Rattle.heading.specs.Heading.{Heading, headingOf, isIdentifier}
-use Rattle.heading.specs.declared.Storm.{Storm}
+use Rattle.heading.specs.Storm.{StormName}
 use Rattle.bulletin.specs.Search.{later}
 use Rattle.bulletin.specs.Mnd.{stormIn}
 use Rattle.bulletin.specs.Segments.{Segment, segmentsOf}
@@ -47,7 +47,7 @@ pub record Bulletin : Type 0 where
   pub heading : Heading
   pub identifier : ℕ
   pub issue : ℕ
-  pub storm : Storm
+  pub storm : Option StormName
   pub segments : List Segment
 
 -- "Order, reading: 1, 5 (year, month), 2, 3, 4, 5 (issue), 10, then 6 at the start of a line 3 that opens nothing, or 7 (also without a line 3); then segment by segment 9, 6, 5, 11, 8."

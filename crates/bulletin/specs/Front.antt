@@ -5,11 +5,12 @@ use Rattle.refusal.specs.Numbers.{wrongLength, wrongTime}
 use Rattle.lines.specs.Check.{checkText}
 use Rattle.calendar.specs.Calendar.{isIssueMonth, minuteOf}
 use Rattle.heading.specs.Heading.{Heading}
-use Rattle.heading.specs.Paper.{paperHeading}
+use Rattle.heading.specs.Storm.{StormName}
+use Rattle.heading.specs.Paper.{paperHeading, paperStorm}
 use mathlib.Core.List.{List}
+use mathlib.Core.Option.{Option}
 use Rattle.refusal.specs.Answer.{Answer, ok, must, andThen, paperRefusal}
 use Rattle.lines.specs.Lines.{Line, linesOf}
-use Rattle.heading.specs.declared.Storm.{Storm}
 use Rattle.bulletin.specs.Search.{later, linesOn}
 use Rattle.bulletin.specs.Bulletin.{isLength, line1, line2, issued}
 use Rattle.bulletin.specs.declared.Topped.{Topped}
@@ -19,8 +20,8 @@ use Rattle.bulletin.specs.declared.Stormed.the-variants as stormed
 use Rattle.bulletin.specs.declared.Start.{Start}
 use Rattle.bulletin.specs.declared.Start.the-variants as start
 
-abbrev pub paperStormed : Stormed → Answer Storm
-paperStormed (stormed.Right s) = ok s
+abbrev pub paperStormed : Stormed → Answer (Option StormName)
+paperStormed (stormed.Right s) = ok (paperStorm s)
 paperStormed (stormed.Refused r) = paperRefusal r
 
 abbrev pub paperStart : List ℕ → Start → Answer (List Line)

@@ -1,14 +1,13 @@
 -- Document 01, "Text and lines": the MND block, its office line and the storm.
 use Prim.Native.Nat.{_+_, _-_}
 use mathlib.Core.List.{List, [], _∷_}
+use mathlib.Core.Option.{Option, none, some}
 use lib.ListN.{length}
 use Rattle.refusal.specs.Numbers.{wrongStorm}
 use Rattle.refusal.specs.Answer.{Answer, ok, refused}
 use Rattle.lines.specs.Lines.{Line, blank}
 use Rattle.heading.specs.Storm as storm
-use Rattle.heading.specs.Storm.{isOffice, stormOf}
-use Rattle.heading.specs.declared.Storm.{Storm}
-use Rattle.heading.specs.declared.Storm.the-variants.{None, Found}
+use Rattle.heading.specs.Storm.{isOffice, StormName, StormSaid, stormOf}
 use Rattle.bulletin.specs.Search.{fromFirst, upToFirst, later, afterFirst, closes}
 
 -- "the lines after the first blank line that follows line 2"
@@ -28,14 +27,14 @@ abbrev pub officeLines : List Line → List Line
 officeLines lines = fromFirst isOffice (mndLines lines)
 
 -- | 10 | storm identifier | its start |
-abbrev pub stormSaid : Line → storm.Said → Answer Storm
-stormSaid l storm.noStorm = ok None
-stormSaid l (storm.storm id) = ok (Found id)
+abbrev pub stormSaid : Line → StormSaid → Answer (Option StormName)
+stormSaid l storm.noStorm = ok none
+stormSaid l (storm.storm name) = ok (some name)
 stormSaid l storm.wrongStorm = refused wrongStorm (l .start + (length (l .body) - 8))
 
-abbrev pub officeStorm : List Line → Answer Storm
-officeStorm [] = ok None
+abbrev pub officeStorm : List Line → Answer (Option StormName)
+officeStorm [] = ok none
 officeStorm (l ∷ ls) = stormSaid l (stormOf (l .body))
 
-unfoldable pub stormIn : List Line → Answer Storm
+unfoldable pub stormIn : List Line → Answer (Option StormName)
 stormIn lines = officeStorm (officeLines lines)

@@ -97,9 +97,9 @@ module _ (s : List ℕ) where
       (ap (λ (t : Bool). t && isTime (stampOf (drop 12 s)))
       (gather (eqb (length s) 18 && begins headingForm s) (eqb (length s) 22) (begins headingForm s) (begins (bbbForm "AA") (drop 18 s)) (begins (bbbForm "CC") (drop 18 s)) (begins (bbbForm "RR") (drop 18 s))))
 
-  -- the bytes of BBB
-  rest-is : length s ≡ 22 → drop 19 s ≡ getD s 19 0 ∷ getD s 20 0 ∷ getD s 21 0 ∷ []
-  rest-is n = rw (drop-cons s 19 0 (omega (arith, n)), drop-cons s 20 0 (omega (arith, n)), drop-cons s 21 0 (omega (arith, n)), drop-of-length-le s {i = 22} (omega (arith, n)))
+  -- the space and the bytes of BBB
+  rest-is : length s ≡ 22 → drop 18 s ≡ getD s 18 0 ∷ getD s 19 0 ∷ getD s 20 0 ∷ getD s 21 0 ∷ []
+  rest-is n = rw (drop-cons s 18 0 (omega (arith, n)), drop-cons s 19 0 (omega (arith, n)), drop-cons s 20 0 (omega (arith, n)), drop-cons s 21 0 (omega (arith, n)), drop-of-length-le s {i = 22} (omega (arith, n)))
 
 first : (x y t : Bool) → (x && t) ≡ true → ((x || y) && t) ≡ true
 first true y t e = e
@@ -128,7 +128,7 @@ module _ (s : List ℕ) (h : Bool) (d o m : ℕ) (t : Bool) (eh : h ≡ begins h
   unfolding headingOf
   heading-plain e =
       let n : length s ≡ 18 = eqb-true (length s) 18 (and-left (eqb (length s) 18) h (and-left (eqb (length s) 18 && h) t e)) in
-      let b : drop 19 s ≡ [] = drop-of-length-le s {i = 19} (omega (arith, n)) in
+      let b : drop 18 s ≡ [] = drop-of-length-le s {i = 18} (omega (arith, n)) in
       rw (whole (isAmended (drop 18 s)) refl true (first (eqb (length s) 18 && h) (eqb (length s) 22 && (h && isAmended (drop 18 s))) t e), ← stamp, b)
 
   module _ (e : (eqb (length s) 18 && h && t) ≡ false) (a : Bool) (ea : a ≡ isAmended (drop 18 s)) where

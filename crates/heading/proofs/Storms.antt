@@ -13,8 +13,8 @@ use Rattle.lines.specs.Spans.{part}
 use Rattle.lines.proofs.Strings.{begins-append, exactly-is}
 use Rattle.codes.specs.Places.{twoOf}
 use Rattle.heading.specs.Heading.{times}
-use Rattle.heading.specs.Storm.{isOffice, stormForm, namesStorm, basinOf, classOf, stormIn, stormOf}
-use Rattle.heading.specs.Paper.{paperBasin, paperClass, paperNamed}
+use Rattle.heading.specs.Storm.{isOffice, stormForm, namesStorm, basinOf, classOf, stormSpelled, stormOf}
+use Rattle.heading.specs.Paper.{paperBasinFound, paperClassFound, paperNamed}
 use Rattle.heading.specs.declared.Basin.{Basin}
 use Rattle.heading.specs.declared.Basin.the-variants.{Al, Sl, Ep, Cp, Wp}
 use Rattle.heading.specs.declared.BasinFound.{BasinFound}
@@ -51,75 +51,75 @@ names-by s e ee w x y p q r = rw (← ee) (sym (exactly-is stormForm e ∙ ap (�
 
 -- ---- the basin
 module _ (e : List ℕ) (a : Bool) (ea : a ≡ begins (word "AL") e) where
-  pub basin-al : a ≡ true → paperBasin (basin.In Al) ≡ basinOf e
+  pub basin-al : a ≡ true → paperBasinFound (basin.In Al) ≡ basinOf e
   unfolding basinOf
   basin-al y = rw (← ea, y)
 
   module _ (na : a ≡ false) (b : Bool) (eb : b ≡ begins (word "SL") e) where
-    pub basin-sl : b ≡ true → paperBasin (basin.In Sl) ≡ basinOf e
+    pub basin-sl : b ≡ true → paperBasinFound (basin.In Sl) ≡ basinOf e
     unfolding basinOf
     basin-sl y = rw (← ea, na, ← eb, y)
 
     module _ (nb : b ≡ false) (c : Bool) (ec : c ≡ begins (word "EP") e) where
-      pub basin-ep : c ≡ true → paperBasin (basin.In Ep) ≡ basinOf e
+      pub basin-ep : c ≡ true → paperBasinFound (basin.In Ep) ≡ basinOf e
       unfolding basinOf
       basin-ep y = rw (← ea, na, ← eb, nb, ← ec, y)
 
       module _ (nc : c ≡ false) (d : Bool) (ed : d ≡ begins (word "CP") e) where
-        pub basin-cp : d ≡ true → paperBasin (basin.In Cp) ≡ basinOf e
+        pub basin-cp : d ≡ true → paperBasinFound (basin.In Cp) ≡ basinOf e
         unfolding basinOf
         basin-cp y = rw (← ea, na, ← eb, nb, ← ec, nc, ← ed, y)
 
         module _ (nd : d ≡ false) (f : Bool) (ef : f ≡ begins (word "WP") e) where
-          pub basin-wp : f ≡ true → paperBasin (basin.In Wp) ≡ basinOf e
+          pub basin-wp : f ≡ true → paperBasinFound (basin.In Wp) ≡ basinOf e
           unfolding basinOf
           basin-wp y = rw (← ea, na, ← eb, nb, ← ec, nc, ← ed, nd, ← ef, y)
 
-          pub basin-none : f ≡ false → paperBasin basin.Nothing ≡ basinOf e
+          pub basin-none : f ≡ false → paperBasinFound basin.Nothing ≡ basinOf e
           unfolding basinOf
           basin-none y = rw (← ea, na, ← eb, nb, ← ec, nc, ← ed, nd, ← ef, y)
 
 -- ---- the class
 module _ (n : ℕ) where
-  pub class-cyclone : between 1 49 n ≡ true → paperClass (class.Of Cyclone) ≡ classOf n
+  pub class-cyclone : between 1 49 n ≡ true → paperClassFound (class.Of Cyclone) ≡ classOf n
   unfolding classOf
   class-cyclone a = rw a
 
   module _ (a : between 1 49 n ≡ false) where
-    pub class-internal : between 50 79 n ≡ true → paperClass (class.Of Internal) ≡ classOf n
+    pub class-internal : between 50 79 n ≡ true → paperClassFound (class.Of Internal) ≡ classOf n
     unfolding classOf
     class-internal b = rw (a, b)
 
     module _ (b : between 50 79 n ≡ false) where
-      pub class-training : between 80 89 n ≡ true → paperClass (class.Of Training) ≡ classOf n
+      pub class-training : between 80 89 n ≡ true → paperClassFound (class.Of Training) ≡ classOf n
       unfolding classOf
       class-training c = rw (a, b, c)
 
       module _ (c : between 80 89 n ≡ false) where
-        pub class-disturbance : between 90 99 n ≡ true → paperClass (class.Of Disturbance) ≡ classOf n
+        pub class-disturbance : between 90 99 n ≡ true → paperClassFound (class.Of Disturbance) ≡ classOf n
         unfolding classOf
         class-disturbance d = rw (a, b, c, d)
 
-        pub class-none : between 90 99 n ≡ false → paperClass class.Nothing ≡ classOf n
+        pub class-none : between 90 99 n ≡ false → paperClassFound class.Nothing ≡ classOf n
         unfolding classOf
         class-none d = rw (a, b, c, d)
 
 -- ---- the storm of eight bytes
-module _ (e : List ℕ) (n : ℕ) (en : n ≡ twoOf (drop 2 e)) (f : BasinFound) (ef : paperBasin f ≡ basinOf e) where
-  pub storm-elsewhere : f ≡ basin.Nothing → paperNamed Wrong ≡ stormIn e
+module _ (e : List ℕ) (n : ℕ) (en : n ≡ twoOf (drop 2 e)) (f : BasinFound) (ef : paperBasinFound f ≡ basinOf e) where
+  pub storm-elsewhere : f ≡ basin.Nothing → paperNamed Wrong ≡ stormSpelled e
   storm-elsewhere p = rw (← ef, p)
 
-  module _ (b : Basin) (p : f ≡ basin.In b) (g : ClassFound) (eg : paperClass g ≡ classOf n) where
-    pub storm-zero : g ≡ class.Nothing → paperNamed Wrong ≡ stormIn e
+  module _ (b : Basin) (p : f ≡ basin.In b) (g : ClassFound) (eg : paperClassFound g ≡ classOf n) where
+    pub storm-zero : g ≡ class.Nothing → paperNamed Wrong ≡ stormSpelled e
     storm-zero q = rw (← en, ← ef, p, ← eg, q)
 
     pub storm-found : (c : Class) → g ≡ class.Of c → (y z : ℕ) → y ≡ twoOf (drop 4 e) → z ≡ twoOf (drop 6 e)
-        → paperNamed (Right (found.Found (record { basin = b; class = c; number = n; year = 100 * y + z }))) ≡ stormIn e
+        → paperNamed (Right (found.Found (record { basin = b; class = c; number = n; year = 100 * y + z }))) ≡ stormSpelled e
     storm-found c q y z ey ez = rw (← en, ← ey, ← ez, ← ef, p, ← eg, q)
 
 -- ---- what the office line says
 module _ (s : List ℕ) (t : Bool) (et : t ≡ namesStorm s) where
-  pub storm-named : t ≡ true → (e : List ℕ) → e ≡ drop (length s - 8) s → (r : Named) → paperNamed r ≡ stormIn e → paperNamed r ≡ stormOf s
+  pub storm-named : t ≡ true → (e : List ℕ) → e ≡ drop (length s - 8) s → (r : Named) → paperNamed r ≡ stormSpelled e → paperNamed r ≡ stormOf s
   unfolding stormOf
   storm-named y e ee r q = q ∙ rw (← et, y, ← ee)
 

@@ -32,13 +32,18 @@ isHeading s =
     (exactly headingForm s || exactly (amendedForm "AA") s || exactly (amendedForm "CC") s || exactly (amendedForm "RR") s)
     && isTime (stampOf (drop 12 s))
 
--- its DDHHMM, and its BBB, no byte where it has none
+-- its DDHHMM, and the three bytes of its BBB where it has one
 pub record Heading : Type 0 where
   pub stamp : Stamp
-  pub bbb : List ℕ
+  pub bbb : Option (List ℕ)
+
+-- what follows DDHHMM: nothing, or a space and BBB
+abbrev pub bbbAfter : List ℕ → Option (List ℕ)
+bbbAfter [] = none
+bbbAfter (space ∷ bbb) = some bbb
 
 unfoldable pub headingOf : List ℕ → Option Heading
-headingOf s = cond (isHeading s) (some (record { stamp = stampOf (drop 12 s); bbb = drop 19 s })) none
+headingOf s = cond (isHeading s) (some (record { stamp = stampOf (drop 12 s); bbb = bbbAfter (drop 18 s) })) none
 
 -- ---- line 2: "exactly six bytes. The first four are capitals or digits; each of the last two is a capital, digit or space, and nothing but space follows a space."
 abbrev pub capitalOrDigit : Kind

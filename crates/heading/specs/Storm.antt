@@ -1,17 +1,13 @@
 -- Document 01, "Text and lines": the office line and its storm identifier.
 use Prim.Native.Nat.{ℕ, _+_, _-_, _*_}
-use mathlib.Core.List.{List, _++_}
+use mathlib.Core.List.{List, [], _∷_, _++_}
 use mathlib.Core.Bool.{Bool, cond, _||_}
 use mathlib.Core.Option.{Option, none, some}
+use Prim.Native.String.{String}
 use lib.ListN.{length, drop}
-use Rattle.lines.specs.Bytes.{Kind, between, capital, digit, word, begins, exactly}
+use Rattle.lines.specs.Bytes.{Kind, bytes, between, capital, digit, word, begins, exactly}
 use Rattle.codes.specs.Places.{twoOf}
 use Rattle.heading.specs.Heading.{times}
-use Rattle.heading.specs.declared.Basin.{Basin}
-use Rattle.heading.specs.declared.Basin.the-variants.{Al, Sl, Ep, Cp, Wp}
-use Rattle.heading.specs.declared.Class.{Class}
-use Rattle.heading.specs.declared.Class.the-variants.{Cyclone, Internal, Training, Disturbance}
-use Rattle.heading.specs.declared.StormId.{StormId}
 
 -- "line that begins `NATIONAL WEATHER SERVICE ` or `NWS `"
 unfoldable pub isOffice : List ℕ → Bool
@@ -25,39 +21,55 @@ unfoldable pub namesStorm : List ℕ → Bool
 namesStorm s = exactly stormForm (drop (length s - 9) s)
 
 -- "basin AL, SL, EP, CP or WP"
-unfoldable pub basinOf : List ℕ → Option Basin
-basinOf e =
-    cond (begins (word "AL") e) (some Al)
-    (cond (begins (word "SL") e) (some Sl)
-    (cond (begins (word "EP") e) (some Ep)
-    (cond (begins (word "CP") e) (some Cp)
-    (cond (begins (word "WP") e) (some Wp) none))))
+abbrev pub basinNames : List String
+basinNames = "AL" ∷ "SL" ∷ "EP" ∷ "CP" ∷ "WP" ∷ []
+
+-- the one of these words that stands in front, as its bytes
+abbrev pub inFront : List String → List ℕ → Option (List ℕ)
+inFront [] e = none
+inFront (w ∷ ws) e = cond (begins (word w) e) (some (bytes w)) (inFront ws e)
+
+unfoldable pub basinOf : List ℕ → Option (List ℕ)
+basinOf e = inFront basinNames e
 
 -- "number 01..49 cyclone, 50..79 internal, 80..89 training, 90..99 disturbance"; 00 is none
-unfoldable pub classOf : ℕ → Option Class
-classOf n =
-    cond (between 1 49 n) (some Cyclone)
-    (cond (between 50 79 n) (some Internal)
-    (cond (between 80 89 n) (some Training)
-    (cond (between 90 99 n) (some Disturbance) none)))
+pub data ClassName : Type 0 where
+  cyclone : ClassName
+  internal : ClassName
+  training : ClassName
+  disturbance : ClassName
 
-pub data Said : Type 0 where
+unfoldable pub classOf : ℕ → Option ClassName
+classOf n =
+    cond (between 1 49 n) (some cyclone)
+    (cond (between 50 79 n) (some internal)
+    (cond (between 80 89 n) (some training)
+    (cond (between 90 99 n) (some disturbance) none)))
+
+-- a storm: its basin's two letters, its class, number and year
+pub record StormName : Type 0 where
+  pub basin : List ℕ
+  pub class : ClassName
+  pub number : ℕ
+  pub year : ℕ
+
+pub data StormSaid : Type 0 where
   -- "Otherwise the answer is `no storm`."
-  noStorm : Said
+  noStorm : StormSaid
   -- "A found storm carries one of the four classes within it."
-  storm : StormId → Said
+  storm : StormName → StormSaid
   -- "Another basin, or 00, is refused."
-  wrongStorm : Said
+  wrongStorm : StormSaid
 
 -- the storm of eight bytes; "four digits of year, any"
-abbrev pub identified : Option Basin → Option Class → ℕ → ℕ → Said
+abbrev pub identified : Option (List ℕ) → Option ClassName → ℕ → ℕ → StormSaid
 identified none c n y = wrongStorm
 identified (some b) none n y = wrongStorm
 identified (some b) (some c) n y = storm (record { basin = b; class = c; number = n; year = y })
 
-abbrev pub stormIn : List ℕ → Said
-stormIn e = identified (basinOf e) (classOf (twoOf (drop 2 e))) (twoOf (drop 2 e)) (100 * twoOf (drop 4 e) + twoOf (drop 6 e))
+abbrev pub stormSpelled : List ℕ → StormSaid
+stormSpelled e = identified (basinOf e) (classOf (twoOf (drop 2 e))) (twoOf (drop 2 e)) (100 * twoOf (drop 4 e) + twoOf (drop 6 e))
 
 -- what an office line says of a storm
-unfoldable pub stormOf : List ℕ → Said
-stormOf s = cond (namesStorm s) (stormIn (drop (length s - 8) s)) noStorm
+unfoldable pub stormOf : List ℕ → StormSaid
+stormOf s = cond (namesStorm s) (stormSpelled (drop (length s - 8) s)) noStorm

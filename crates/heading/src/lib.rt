@@ -4,8 +4,8 @@ ghost use Prim.Native.Nat.{_-_, _≤_, _<_};
 ghost use lib.ListN.{length, getD, drop};
 ghost use Rattle.lines.specs.Bytes.{between, begins};
 ghost use Rattle.heading.specs.Heading.{times, headingForm, headingOf, capitalOrDigit, isIdentifier};
-ghost use Rattle.heading.specs.Storm.{isOffice, namesStorm, basinOf, classOf, stormIn, stormOf};
-ghost use Rattle.heading.specs.Paper.{isAmended, paperHeaded, paperBasin, paperClass, paperNamed};
+ghost use Rattle.heading.specs.Storm.{isOffice, namesStorm, basinOf, classOf, stormSpelled, stormOf};
+ghost use Rattle.heading.specs.Paper.{isAmended, paperHeaded, paperBasinFound, paperClassFound, paperNamed};
 use calendar::Stamp;
 
 // BBB.
@@ -203,7 +203,7 @@ fn names_storm(line: &[u8]) -> bool
 }
 
 fn basin_of(e: &[u8]) -> BasinFound
-    ensures { λ r. ⌜ paperBasin r ≡ basinOf (now (e .entry)) ⌝ }
+    ensures { λ r. ⌜ paperBasinFound r ≡ basinOf (now (e .entry)) ⌝ }
 {
     if lines::begins_with(e, b"AL") {
         return BasinFound::In(Basin::Al);
@@ -224,7 +224,7 @@ fn basin_of(e: &[u8]) -> BasinFound
 }
 
 fn class_of(n: usize) -> ClassFound
-    ensures { λ r. ⌜ paperClass r ≡ classOf n ⌝ }
+    ensures { λ r. ⌜ paperClassFound r ≡ classOf n ⌝ }
 {
     if (1 <= n) & (n <= 49) {
         return ClassFound::Of(Class::Cyclone);
@@ -243,7 +243,7 @@ fn class_of(n: usize) -> ClassFound
 
 // The storm that eight bytes name.
 fn storm_in(e: &[u8]) -> Named
-    ensures { λ r. ⌜ paperNamed r ≡ stormIn (now (e .entry)) ⌝ }
+    ensures { λ r. ⌜ paperNamed r ≡ stormSpelled (now (e .entry)) ⌝ }
 {
     let number = codes::two(e, 2);
     let century = codes::two(e, 4);

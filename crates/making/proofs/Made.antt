@@ -4,6 +4,7 @@ use native.Mathlib.Omega.{arith}
 use mathlib.Core.Path.{_≡_, refl, subst}
 use mathlib.Core.Bool.{true}
 use mathlib.Core.List.{List, [], _∷_}
+use mathlib.Core.Option.{Option}
 use lib.ListN.{length}
 use Rattle.laws.proofs.Tests.{by, apart}
 use Rattle.laws.proofs.Lists.{All, all-nil, all-cons, all-map}
@@ -19,7 +20,7 @@ use Rattle.refusal.specs.Numbers.{wrongTime, wrongBlock}
 use Rattle.calendar.specs.Calendar.{isIssueMonth, minuteOf}
 use Rattle.calendar.specs.declared.Stamp.{Stamp}
 use Rattle.heading.specs.Heading.{Heading}
-use Rattle.heading.specs.declared.Storm.{Storm}
+use Rattle.heading.specs.Storm.{StormName}
 use Rattle.making.proofs.Openings.{From, from-all, from-step, from-later, from-first, first-passes, Opens}
 
 -- an answer that comes after another is accepted only after that one
@@ -127,7 +128,7 @@ pub record Read (text : List ℕ) (year month : ℕ) (b : Bulletin) : Type 0 whe
   pub dated : issued (minuteOf (record { year = year; month = month; stamp = stamp })) ≡ ok (b .issue)
   pub listed : segmentsOf text (b .issue) (linesOf text) ≡ ok (b .segments)
 
-read-last : (text : List ℕ) (year month : ℕ) (b : Bulletin) (h : Heading) (n issue : ℕ) (s : Storm) (gs : List Segment) → must (isIssueMonth year month) wrongTime 0 ≡ ok tt
+read-last : (text : List ℕ) (year month : ℕ) (b : Bulletin) (h : Heading) (n issue : ℕ) (s : Option StormName) (gs : List Segment) → must (isIssueMonth year month) wrongTime 0 ≡ ok tt
     → issued (minuteOf (record { year = year; month = month; stamp = h .stamp })) ≡ ok issue → segmentsOf text issue (linesOf text) ≡ ok gs
     → record { heading = h; identifier = n; issue = issue; storm = s; segments = gs } ≡ b → Read text year month b
 read-last text year month b h n issue s gs k d l e =

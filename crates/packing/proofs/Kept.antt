@@ -2,9 +2,10 @@
 use Prim.Native.Nat.{ℕ, zero, suc, _+_, _*_, _/_, _%_, _≤_, _<_}
 use native.Mathlib.Nat.{zero-add, add-mul-mod-self-left, mod-eq-of-lt, add-mul-div-left, div-eq-of-lt, div-div-eq-div-mul}
 use native.Mathlib.Omega.{arith}
-use mathlib.Core.Path.{_≡_, refl, sym, ap, ap₂, _∙_}
+use mathlib.Core.Path.{_≡_, refl, sym, ap, ap₂, _∙_, subst}
 use mathlib.Core.Bool.{true, false, _&&_}
 use mathlib.Core.List.{List, [], _∷_}
+use mathlib.Core.Option.{Option, none, some}
 use lib.ListN.{length}
 use lib.Dec.{leb, eqb}
 use borrow.Author.Tests.{leb-true, ne-eqb}
@@ -13,15 +14,13 @@ use Rattle.laws.proofs.Lists.{All, all-cons}
 use Rattle.refusal.specs.Numbers.{Reason, numberOf, wrongLength, wrongText, wrongHeading, wrongIdentifier, wrongTime, wrongBlock, noSegment, noEnd, ninthSegment, wrongStorm, tooManyPlaces, notSound, noDraft, allOpen, noSuchSegment, notTaken, takenAlready, twoTaken, segmentFull, onlyPlace, staleDraft, noStep, outputShort, outOfRange}
 use Rattle.refusal.specs.Answer.{Answer, ok, no, refused}
 use Rattle.blocks.proofs.Numbers.{low-byte, high-part}
+use Rattle.lines.specs.Bytes.{exactly}
 use Rattle.steps.specs.Calls.{changed}
+use Rattle.heading.specs.Storm.{ClassName, cyclone, internal, training, disturbance, StormName}
+use Rattle.heading.specs.Paper.{paperBasin}
 use Rattle.heading.specs.declared.Basin.{Basin}
 use Rattle.heading.specs.declared.Basin.the-variants.{Al, Sl, Ep, Cp, Wp}
-use Rattle.heading.specs.declared.Class.{Class}
-use Rattle.heading.specs.declared.Class.the-variants.{Cyclone, Internal, Training, Disturbance}
-use Rattle.heading.specs.declared.StormId.{StormId}
-use Rattle.heading.specs.declared.Storm.{Storm}
-use Rattle.heading.specs.declared.Storm.the-variants.{None, Found}
-use Rattle.packing.specs.Packing.{restEnd, cell, pack, unpack, answered, spelled, unspelled, valueBits, namedMost, segmentsIn, plain, startEnd, lengthEnd, View, viewBits, viewIn, basinNumber, basinOf, classNumber, classOf, yearEnd, stormBits, stormIn}
+use Rattle.packing.specs.Packing.{restEnd, cell, pack, unpack, answered, spelled, unspelled, valueBits, namedMost, segmentsIn, plain, startEnd, sizeEnd, View, viewBits, viewBack, bbbBytes, bbbBits, bbbBack, basinNumber, basinBack, classNumber, classBack, yearEnd, stormBits, stormBack}
 
 -- ---- an answer
 cell-low : (low rest : ℕ) → low < 256 → cell low rest % 256 ≡ low
@@ -115,28 +114,74 @@ pub view-low : (v : View) → viewBits v < restEnd
 unfolding viewBits
 view-low v = omega arith
 
-pub view-back : (v : View) → v .start < startEnd → v .length < lengthEnd → viewIn (viewBits v) ≡ v
-unfolding viewBits viewIn
+pub view-back : (v : View) → v .start < startEnd → v .size < sizeEnd → viewBack (viewBits v) ≡ v
+unfolding viewBits viewBack
 view-back v hs hl =
     let a : v .start % startEnd ≡ v .start = mod-eq-of-lt hs in
-    let b : v .length % lengthEnd ≡ v .length = mod-eq-of-lt hl in
-    let m : (v .start + startEnd * v .length) % startEnd ≡ v .start = add-mul-mod-self-left (v .start) startEnd (v .length) ∙ mod-eq-of-lt hs in
-    let d : (v .start + startEnd * v .length) / startEnd ≡ v .length
-    = add-mul-div-left (v .start) (v .length) {y = startEnd} (omega arith) ∙ ap (λ (z : ℕ). z + v .length) (div-eq-of-lt hs) ∙ zero-add (v .length) in
+    let b : v .size % sizeEnd ≡ v .size = mod-eq-of-lt hl in
+    let m : (v .start + startEnd * v .size) % startEnd ≡ v .start = add-mul-mod-self-left (v .start) startEnd (v .size) ∙ mod-eq-of-lt hs in
+    let d : (v .start + startEnd * v .size) / startEnd ≡ v .size
+    = add-mul-div-left (v .start) (v .size) {y = startEnd} (omega arith) ∙ ap (λ (z : ℕ). z + v .size) (div-eq-of-lt hs) ∙ zero-add (v .size) in
     rw (a, b, m, d)
 
+-- ---- a BBB: three bytes, none of them 0
+pub data Marked : Option (List ℕ) → Type 0 where
+  unmarked : Marked none
+  marked : {bbb : List ℕ} → All Byte bbb → length bbb ≡ bbbBytes → Marked (some bbb)
+
+pub bbb-low : (b : Option (List ℕ)) → Marked b → bbbBits b < 16777216
+unfolding bbbBits
+bbb-low none unmarked = omega arith
+bbb-low (some bbb) (marked a n) = spelled-low bbb (omega arith)
+
+spelled-more : (bs : List ℕ) → All Byte bs → 1 ≤ length bs → 1 ≤ spelled bs
+unfolding spelled
+spelled-more [] a h = impossible (omega arith)
+spelled-more (b ∷ bs) (all-cons f a) h = omega (arith, mod-eq-of-lt (f .below), f .from)
+
+pub bbb-back : (b : Option (List ℕ)) → Marked b → bbbBack (bbbBits b) ≡ b
+unfolding bbbBits bbbBack
+bbb-back none unmarked = refl
+bbb-back (some bbb) (marked a n) =
+    let z : eqb (spelled bbb) 0 ≡ false = ne-eqb (spelled bbb) 0 (omega (arith, spelled-more bbb a (omega arith))) in
+    rw (z, unspelled-spelled bbbBytes bbb a (omega arith))
+
 -- ---- a storm
-basin-back : (b : Basin) → basinOf (basinNumber b) ≡ b
+-- the two letters of one of the basins
+pub record Known (b : List ℕ) : Type 0 where
+  pub basin : Basin
+  pub same : paperBasin basin ≡ b
+
+basin-back : (b : Basin) → basinBack (basinNumber (paperBasin b)) ≡ paperBasin b
+unfolding basinNumber basinBack exactly
 basin-back = elim [ Al ↦ refl | Sl ↦ refl | Ep ↦ refl | Cp ↦ refl | Wp ↦ refl ]
 
-class-back : (c : Class) → classOf (classNumber c) ≡ c
-class-back = elim [ Cyclone ↦ refl | Internal ↦ refl | Training ↦ refl | Disturbance ↦ refl ]
+class-back : (c : ClassName) → classBack (classNumber c) ≡ c
+class-back = elim [ cyclone ↦ refl | internal ↦ refl | training ↦ refl | disturbance ↦ refl ]
 
-basin-low : (b : Basin) → (leb 1 (basinNumber b) && leb (basinNumber b) 5) ≡ true
+basin-low : (b : Basin) → (leb 1 (basinNumber (paperBasin b)) && leb (basinNumber (paperBasin b)) 5) ≡ true
+unfolding basinNumber exactly
 basin-low = elim [ Al ↦ refl | Sl ↦ refl | Ep ↦ refl | Cp ↦ refl | Wp ↦ refl ]
 
-class-low : (c : Class) → leb (classNumber c) 4 ≡ true
-class-low = elim [ Cyclone ↦ refl | Internal ↦ refl | Training ↦ refl | Disturbance ↦ refl ]
+class-low : (c : ClassName) → leb (classNumber c) 4 ≡ true
+class-low = elim [ cyclone ↦ refl | internal ↦ refl | training ↦ refl | disturbance ↦ refl ]
+
+-- a basin's number is 1..5, and its letters are found again
+record Basined (b : List ℕ) : Type 0 where
+  from : 1 ≤ basinNumber b
+  to : basinNumber b ≤ 5
+  back : basinBack (basinNumber b) ≡ b
+
+known-basin : (b : List ℕ) → Known b → Basined b
+known-basin b k =
+    let n = basinNumber (paperBasin (k .basin)) in
+    let both : (leb 1 n && leb n 5) ≡ true = basin-low (k .basin) in
+    subst Basined (k .same)
+    (record {
+      from = leb-true 1 n (and-left (leb 1 n) (leb n 5) both);
+      to = leb-true n 5 (and-right (leb 1 n) (leb n 5) both);
+      back = basin-back (k .basin);
+    })
 
 -- the four parts of a number: three bytes, and the rest
 pub record Parted (a b c d : ℕ) : Type 0 where
@@ -161,39 +206,37 @@ parted a b c d ha hb hc =
       rest = ap (λ (z : ℕ). z / 16777216) e ∙ v3;
     }
 
-pub storm-low : (s : Storm) → stormBits s < restEnd
+-- a storm's basin is one of the five, its number has 8 bits, and its year 16
+pub data Small : Option StormName → Type 0 where
+  small-none : Small none
+  small-some : {s : StormName} → Known (s .basin) → s .number < 256 → s .year < yearEnd → Small (some s)
+
+pub storm-low : (s : Option StormName) → Small s → stormBits s < restEnd
 unfolding stormBits
-storm-low None = omega arith
-storm-low (Found id) =
-    let b : basinNumber (id .basin) ≤ 5 = leb-true (basinNumber (id .basin)) 5 (and-right (leb 1 (basinNumber (id .basin))) (leb (basinNumber (id .basin)) 5) (basin-low (id .basin))) in
-    let c : classNumber (id .class) ≤ 4 = leb-true (classNumber (id .class)) 4 (class-low (id .class)) in
-    omega arith
+storm-low none small-none = omega arith
+storm-low (some s) (small-some k hn hy) = omega (arith, known-basin (s .basin) k .to, leb-true (classNumber (s .class)) 4 (class-low (s .class)))
 
--- a storm's number has 8 bits, and its year 16
-pub data Small : Storm → Type 0 where
-  small-none : Small None
-  small-found : {id : StormId} → id .number < 256 → id .year < yearEnd → Small (Found id)
-
-id-back : (basin : Basin) (class : Class) (number year : ℕ) → number < 256 → year < yearEnd
-    → stormIn (basinNumber basin + 256 * classNumber class + 65536 * number + 16777216 * year) ≡ Found (record { basin = basin; class = class; number = number; year = year })
-unfolding stormIn
-id-back basin class number year hn hy =
+name-back : (basin : List ℕ) (class : ClassName) (number year : ℕ) → Known basin → number < 256 → year < yearEnd
+    → stormBack (basinNumber basin + 256 * classNumber class + 65536 * number + 16777216 * year) ≡ some (record { basin = basin; class = class; number = number; year = year })
+unfolding stormBack
+name-back basin class number year k hn hy =
     let b = basinNumber basin in
     let c = classNumber class in
-    let low : 1 ≤ b = leb-true 1 b (and-left (leb 1 b) (leb b 5) (basin-low basin)) in
-    let high : b ≤ 5 = leb-true b 5 (and-right (leb 1 b) (leb b 5) (basin-low basin)) in
+    let known : Basined basin = known-basin basin k in
+    let low : 1 ≤ b = known .from in
+    let high : b ≤ 5 = known .to in
     let most : c ≤ 4 = leb-true c 4 (class-low class) in
     let p : Parted b c number year = parted b c number year (omega arith) (omega arith) hn in
     let z : eqb (b + 256 * c + 65536 * number + 16777216 * year) 0 ≡ false = ne-eqb (b + 256 * c + 65536 * number + 16777216 * year) 0 (omega arith) in
-    rw (z, p .first, p .second, p .third, p .rest, basin-back basin, class-back class)
+    rw (z, p .first, p .second, p .third, p .rest, known .back, class-back class)
 
-none-back : stormIn 0 ≡ None
-unfolding stormIn
+none-back : stormBack 0 ≡ none
+unfolding stormBack
 none-back = refl
 
-pub storm-back : (s : Storm) → Small s → stormIn (stormBits s) ≡ s
+pub storm-back : (s : Option StormName) → Small s → stormBack (stormBits s) ≡ s
 unfolding stormBits
-storm-back None small-none = none-back
-storm-back (Found id) (small-found hn hy) =
-    ap₂ (λ (n y : ℕ). stormIn (basinNumber (id .basin) + 256 * classNumber (id .class) + 65536 * n + 16777216 * y)) (mod-eq-of-lt hn) (mod-eq-of-lt hy)
-    ∙ id-back (id .basin) (id .class) (id .number) (id .year) hn hy
+storm-back none small-none = none-back
+storm-back (some s) (small-some k hn hy) =
+    ap₂ (λ (n y : ℕ). stormBack (basinNumber (s .basin) + 256 * classNumber (s .class) + 65536 * n + 16777216 * y)) (mod-eq-of-lt hn) (mod-eq-of-lt hy)
+    ∙ name-back (s .basin) (s .class) (s .number) (s .year) k hn hy

@@ -10,9 +10,12 @@ use Rattle.refusal.specs.declared.Verdict.the-variants as verdict
 use Rattle.writing.specs.Write.{paperWritten}
 use Rattle.writing.specs.declared.Written.{Written}
 use Rattle.writing.specs.declared.Written.the-variants as written
-use Rattle.heading.specs.Paper.{paperBbb}
+use Rattle.lines.specs.Bytes.{exactly}
+use Rattle.heading.specs.Paper.{paperBbb, paperBasin, paperId, paperStorm}
 use Rattle.heading.specs.declared.Bbb.{Bbb}
 use Rattle.heading.specs.declared.Bbb.the-variants as bbb
+use Rattle.heading.specs.declared.Basin.{Basin}
+use Rattle.heading.specs.declared.Basin.the-variants.{Al, Sl, Ep, Cp, Wp}
 use Rattle.heading.specs.declared.StormId.{StormId}
 use Rattle.heading.specs.declared.Storm.{Storm}
 use Rattle.heading.specs.declared.Storm.the-variants as storm
@@ -22,7 +25,7 @@ use Rattle.layout.specs.declared.Changed.the-variants as changed
 use Rattle.layout.specs.declared.Reply.{Reply}
 use Rattle.layout.specs.declared.Reply.the-variants as reply
 use Rattle.layout.specs.Layout.{bit}
-use Rattle.packing.specs.Packing.{cell, pack, packed, nothing, plain, spelled, valueBits, restEnd, startEnd, lengthEnd, viewBits, idBits, stormBits}
+use Rattle.packing.specs.Packing.{cell, pack, packed, nothing, plain, spelled, valueBits, restEnd, startEnd, sizeEnd, viewBits, bbbBits, basinNumber, nameBits, stormBits}
 
 -- the number that the code builds
 pub cell-is : (low rest : ℕ) → low % 256 + 256 * (rest % restEnd) ≡ cell low rest
@@ -47,35 +50,59 @@ module _ (c : Changed) where
 
 -- ---- a BBB
 module _ (x : Bbb) where
-  pub bbb-none : x ≡ bbb.Nothing → 0 ≡ spelled (paperBbb x)
-  unfolding spelled
-  bbb-none q = ap (λ (y : Bbb). spelled (paperBbb y)) (sym q)
+  pub bbb-none : x ≡ bbb.Nothing → 0 ≡ bbbBits (paperBbb x)
+  unfolding bbbBits
+  bbb-none q = ap (λ (y : Bbb). bbbBits (paperBbb y)) (sym q)
 
-  pub bbb-code : (a b c : ℕ) → x ≡ bbb.Code a b c → (u v w : ℕ) → u ≡ a % 256 → v ≡ b % 256 → w ≡ c % 256 → u + 256 * v + 65536 * w ≡ spelled (paperBbb x)
-  unfolding spelled
+  pub bbb-code : (a b c : ℕ) → x ≡ bbb.Code a b c → (u v w : ℕ) → u ≡ a % 256 → v ≡ b % 256 → w ≡ c % 256 → u + 256 * v + 65536 * w ≡ bbbBits (paperBbb x)
+  unfolding bbbBits spelled
   bbb-code a b c q u v w eu ev ew =
       let e : u + 256 * v + 65536 * w ≡ a % 256 + 256 * (b % 256 + 256 * (c % 256 + 256 * 0)) = omega arith in
-      e ∙ ap (λ (y : Bbb). spelled (paperBbb y)) (sym q)
+      e ∙ ap (λ (y : Bbb). bbbBits (paperBbb y)) (sym q)
 
 -- ---- a storm
-module _ (s : Storm) where
-  pub storm-none : s ≡ storm.None → 0 ≡ stormBits s
-  unfolding stormBits
-  storm-none q = ap stormBits (sym q)
+module _ (b : Basin) where
+  as-basin : (c : Basin) (n : ℕ) → n ≡ basinNumber (paperBasin c) → b ≡ c → n ≡ basinNumber (paperBasin b)
+  as-basin c n e q = e ∙ ap (λ (x : Basin). basinNumber (paperBasin x)) (sym q)
 
-  pub storm-found : (id : StormId) → s ≡ storm.Found id → (r : ℕ) → r ≡ idBits id → r ≡ stormBits s
+  pub basin-al : b ≡ Al → 1 ≡ basinNumber (paperBasin b)
+  unfolding basinNumber exactly
+  basin-al = as-basin Al 1 refl
+
+  pub basin-sl : b ≡ Sl → 2 ≡ basinNumber (paperBasin b)
+  unfolding basinNumber exactly
+  basin-sl = as-basin Sl 2 refl
+
+  pub basin-ep : b ≡ Ep → 3 ≡ basinNumber (paperBasin b)
+  unfolding basinNumber exactly
+  basin-ep = as-basin Ep 3 refl
+
+  pub basin-cp : b ≡ Cp → 4 ≡ basinNumber (paperBasin b)
+  unfolding basinNumber exactly
+  basin-cp = as-basin Cp 4 refl
+
+  pub basin-wp : b ≡ Wp → 5 ≡ basinNumber (paperBasin b)
+  unfolding basinNumber exactly
+  basin-wp = as-basin Wp 5 refl
+
+module _ (s : Storm) where
+  pub storm-none : s ≡ storm.None → 0 ≡ stormBits (paperStorm s)
   unfolding stormBits
-  storm-found id q r e = e ∙ ap stormBits (sym q)
+  storm-none q = ap (λ (x : Storm). stormBits (paperStorm x)) (sym q)
+
+  pub storm-found : (id : StormId) → s ≡ storm.Found id → (r : ℕ) → r ≡ nameBits (paperId id) → r ≡ stormBits (paperStorm s)
+  unfolding stormBits
+  storm-found id q r e = e ∙ ap (λ (x : Storm). stormBits (paperStorm x)) (sym q)
 
 -- ---- a view
-pub view-none : (a b : ℕ) → b < a → a % startEnd ≡ viewBits (record { start = a; length = b - a })
+pub view-none : (a b : ℕ) → b < a → a % startEnd ≡ viewBits (record { start = a; size = b - a })
 unfolding viewBits
 view-none a b h =
     let z : b - a ≡ 0 = omega arith in
-    let e : a % startEnd ≡ a % startEnd + startEnd * (0 % lengthEnd) = omega arith in
-    e ∙ ap (λ (n : ℕ). a % startEnd + startEnd * (n % lengthEnd)) (sym z)
+    let e : a % startEnd ≡ a % startEnd + startEnd * (0 % sizeEnd) = omega arith in
+    e ∙ ap (λ (n : ℕ). a % startEnd + startEnd * (n % sizeEnd)) (sym z)
 
-pub view-some : (a b : ℕ) → a % startEnd + startEnd * ((b - a) % lengthEnd) ≡ viewBits (record { start = a; length = b - a })
+pub view-some : (a b : ℕ) → a % startEnd + startEnd * ((b - a) % sizeEnd) ≡ viewBits (record { start = a; size = b - a })
 unfolding viewBits
 view-some a b = refl
 

@@ -2,15 +2,12 @@
 use Prim.Native.Nat.{ℕ, zero, suc, _+_, _-_, _*_, _/_, _%_}
 use mathlib.Core.Bool.{cond}
 use mathlib.Core.List.{List, [], _∷_}
+use mathlib.Core.Option.{Option, none, some}
+use Prim.Native.String.{String}
 use lib.Dec.{eqb}
 use Rattle.refusal.specs.Answer.{Answer, ok, no}
-use Rattle.heading.specs.declared.Basin.{Basin}
-use Rattle.heading.specs.declared.Basin.the-variants.{Al, Sl, Ep, Cp, Wp}
-use Rattle.heading.specs.declared.Class.{Class}
-use Rattle.heading.specs.declared.Class.the-variants.{Cyclone, Internal, Training, Disturbance}
-use Rattle.heading.specs.declared.StormId.{StormId}
-use Rattle.heading.specs.declared.Storm.{Storm}
-use Rattle.heading.specs.declared.Storm.the-variants.{None, Found}
+use Rattle.lines.specs.Bytes.{bytes, word, exactly}
+use Rattle.heading.specs.Storm.{basinNames, ClassName, cyclone, internal, training, disturbance, StormName}
 use Rattle.bulletin.specs.declared.Segment.{Segment}
 use Rattle.layout.specs.Layout.{bit}
 use Rattle.steps.specs.Calls as calls
@@ -98,58 +95,75 @@ noValue r = tt
 abbrev pub plain : ℕ → ℕ
 plain n = n
 
--- ---- a view: its start in 24 bits, its length in 32 bits above them
+-- ---- a view: its start in 24 bits, its size in 32 bits above them
 abbrev pub startEnd : ℕ
 startEnd = 16_777_216
 
-abbrev pub lengthEnd : ℕ
-lengthEnd = 4_294_967_296
+abbrev pub sizeEnd : ℕ
+sizeEnd = 4_294_967_296
 
 pub record View : Type 0 where
   pub start : ℕ
-  pub length : ℕ
+  pub size : ℕ
 
 unfoldable pub viewBits : View → ℕ
-viewBits v = v .start % startEnd + startEnd * (v .length % lengthEnd)
+viewBits v = v .start % startEnd + startEnd * (v .size % sizeEnd)
 
-unfoldable pub viewIn : ℕ → View
-viewIn r = record { start = r % startEnd; length = r / startEnd }
+unfoldable pub viewBack : ℕ → View
+viewBack r = record { start = r % startEnd; size = r / startEnd }
 
 -- the view of a segment in the caller's own text
 abbrev pub viewed : Segment → View
-viewed g = record { start = g .start; length = g .past - g .start }
+viewed g = record { start = g .start; size = g .past - g .start }
+
+-- ---- a BBB: 0 for none, else its three bytes
+abbrev pub bbbBytes : ℕ
+bbbBytes = 3
+
+unfoldable pub bbbBits : Option (List ℕ) → ℕ
+bbbBits none = 0
+bbbBits (some bbb) = spelled bbb
+
+unfoldable pub bbbBack : ℕ → Option (List ℕ)
+bbbBack r = cond (eqb r 0) none (some (unspelled bbbBytes r))
 
 -- ---- a storm: 0 for none, else a byte each for its basin (1..5), class (1..4) and number, and above them its year
-abbrev pub basinNumber : Basin → ℕ
-basinNumber Al = 1
-basinNumber Sl = 2
-basinNumber Ep = 3
-basinNumber Cp = 4
-basinNumber Wp = 5
+-- a word's number in a list, from n on; 0 where it is not there
+abbrev pub orderIn : ℕ → List String → List ℕ → ℕ
+orderIn n [] b = 0
+orderIn n (w ∷ ws) b = cond (exactly (word w) b) n (orderIn (suc n) ws b)
 
-abbrev pub basinOf : ℕ → Basin
-basinOf n = cond (eqb n 1) Al (cond (eqb n 2) Sl (cond (eqb n 3) Ep (cond (eqb n 4) Cp Wp)))
+-- the word with a number, from 1 on
+abbrev pub wordAt : List String → ℕ → List ℕ
+wordAt [] n = []
+wordAt (w ∷ ws) n = cond (eqb n 1) (bytes w) (wordAt ws (n - 1))
 
-abbrev pub classNumber : Class → ℕ
-classNumber Cyclone = 1
-classNumber Internal = 2
-classNumber Training = 3
-classNumber Disturbance = 4
+unfoldable pub basinNumber : List ℕ → ℕ
+basinNumber b = orderIn 1 basinNames b
 
-abbrev pub classOf : ℕ → Class
-classOf n = cond (eqb n 1) Cyclone (cond (eqb n 2) Internal (cond (eqb n 3) Training Disturbance))
+unfoldable pub basinBack : ℕ → List ℕ
+basinBack n = wordAt basinNames n
+
+abbrev pub classNumber : ClassName → ℕ
+classNumber cyclone = 1
+classNumber internal = 2
+classNumber training = 3
+classNumber disturbance = 4
+
+abbrev pub classBack : ℕ → ClassName
+classBack n = cond (eqb n 1) cyclone (cond (eqb n 2) internal (cond (eqb n 3) training disturbance))
 
 abbrev pub yearEnd : ℕ
 yearEnd = 65_536
 
-abbrev pub idBits : StormId → ℕ
-idBits id = basinNumber (id .basin) + 256 * classNumber (id .class) + 65_536 * (id .number % 256) + 16_777_216 * (id .year % yearEnd)
+abbrev pub nameBits : StormName → ℕ
+nameBits s = basinNumber (s .basin) + 256 * classNumber (s .class) + 65_536 * (s .number % 256) + 16_777_216 * (s .year % yearEnd)
 
-unfoldable pub stormBits : Storm → ℕ
-stormBits None = 0
-stormBits (Found id) = idBits id
+unfoldable pub stormBits : Option StormName → ℕ
+stormBits none = 0
+stormBits (some s) = nameBits s
 
-unfoldable pub stormIn : ℕ → Storm
-stormIn r =
-    cond (eqb r 0) None
-    (Found (record { basin = basinOf (r % 256); class = classOf (r / 256 % 256); number = r / 65_536 % 256; year = r / 16_777_216 }))
+unfoldable pub stormBack : ℕ → Option StormName
+stormBack r =
+    cond (eqb r 0) none
+    (some (record { basin = basinBack (r % 256); class = classBack (r / 256 % 256); number = r / 65_536 % 256; year = r / 16_777_216 }))

@@ -5,8 +5,8 @@ ghost use Rattle.refusal.specs.Answer.{paperVerdict};
 ghost use Rattle.writing.specs.Write.{paperWritten};
 ghost use Rattle.layout.specs.Layout as layouts;
 ghost use Rattle.layout.specs.Rule.{segmentsOf, paperReply};
-ghost use Rattle.heading.specs.Paper.{paperBbb};
-ghost use Rattle.packing.specs.Packing.{cell, pack, packed, nothing, plain, spelled, basinNumber, classNumber, idBits, stormBits, viewBits};
+ghost use Rattle.heading.specs.Paper.{paperBbb, paperBasin, paperClass, paperId, paperStorm};
+ghost use Rattle.packing.specs.Packing.{cell, pack, packed, nothing, plain, spelled, bbbBits, basinNumber, classNumber, nameBits, stormBits, viewBits};
 use heading::Basin;
 use heading::Bbb;
 use heading::Class;
@@ -84,7 +84,7 @@ fn byte(b: u8) -> usize
 
 // A BBB's three bytes, 0 for none.
 pub fn pack_bbb(bbb: Bbb) -> usize
-    ensures { λ r. ⌜ r ≡ spelled (paperBbb bbb) ⌝ }
+    ensures { λ r. ⌜ r ≡ bbbBits (paperBbb bbb) ⌝ }
 {
     match bbb {
         Bbb::Nothing => 0,
@@ -93,7 +93,7 @@ pub fn pack_bbb(bbb: Bbb) -> usize
 }
 
 fn number_of_basin(basin: Basin) -> usize
-    ensures is { λ r. ⌜ r ≡ basinNumber basin ⌝ }
+    ensures is { λ r. ⌜ r ≡ basinNumber (paperBasin basin) ⌝ }
     ensures most { λ r. ⌜ r ≤ 5 ⌝ }
 {
     match basin {
@@ -106,7 +106,7 @@ fn number_of_basin(basin: Basin) -> usize
 }
 
 fn number_of_class(class: Class) -> usize
-    ensures is { λ r. ⌜ r ≡ classNumber class ⌝ }
+    ensures is { λ r. ⌜ r ≡ classNumber (paperClass class) ⌝ }
     ensures most { λ r. ⌜ r ≤ 4 ⌝ }
 {
     match class {
@@ -118,7 +118,7 @@ fn number_of_class(class: Class) -> usize
 }
 
 fn pack_id(id: StormId) -> usize
-    ensures { λ r. ⌜ r ≡ idBits id ⌝ }
+    ensures { λ r. ⌜ r ≡ nameBits (paperId id) ⌝ }
 {
     let basin = id.basin;
     let class = id.class;
@@ -129,7 +129,7 @@ fn pack_id(id: StormId) -> usize
 
 // The storm, 0 for none.
 pub fn pack_storm(storm: Storm) -> usize
-    ensures { λ r. ⌜ r ≡ stormBits storm ⌝ }
+    ensures { λ r. ⌜ r ≡ stormBits (paperStorm storm) ⌝ }
 {
     match storm {
         Storm::None => 0,
@@ -139,7 +139,7 @@ pub fn pack_storm(storm: Storm) -> usize
 
 // A part of a text, by its start and its end.
 pub fn pack_view(start: usize, past: usize) -> usize
-    ensures { λ r. ⌜ r ≡ viewBits (record { start = start; length = past - start }) ⌝ }
+    ensures { λ r. ⌜ r ≡ viewBits (record { start = start; size = past - start }) ⌝ }
 {
     if past < start {
         return start % 16777216;
