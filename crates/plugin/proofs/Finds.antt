@@ -35,7 +35,7 @@ use Rattle.layout.specs.declared.Reply.the-variants as reply
 use Rattle.making.specs.Make.{orNoSegment}
 use Rattle.making.proofs.Made.{contents-read}
 use Rattle.making.proofs.Making.{Told, told-by, refused-by}
-use Rattle.plugin.specs.Rules.{contentsOf, placeOf, placeIn}
+use Rattle.plugin.specs.Rules.{contentsOf, placeAnswer, placeIn}
 
 -- an element of a list, and none past its end
 pub at-some : (l : List ℕ) (i d : ℕ) → i < length l → getElem? l i ≡ some (getD l i d)
@@ -50,20 +50,20 @@ at-none (x ∷ l) (suc i) h = at-none l i (omega arith)
 
 -- ---- in a block that is read again
 module _ (s : List ℕ) (issue start i : ℕ) (k : Content) (e : paperContent k ≡ contentAt s issue start) where
-  pub place-no : (y : Refusal) → k .purge ≡ purge.Refused y → paperReply (reply.Refused y) ≡ placeOf i (contentAt s issue start)
-  place-no y q = ap (λ (p : Purge). placeOf i (contentOf p (k .places))) (sym q) ∙ ap (placeOf i) e
+  pub place-no : (y : Refusal) → k .purge ≡ purge.Refused y → paperReply (reply.Refused y) ≡ placeAnswer i (contentAt s issue start)
+  place-no y q = ap (λ (p : Purge). placeAnswer i (contentOf p (k .places))) (sym q) ∙ ap (placeAnswer i) e
 
   module _ (t : ℕ) (q : k .purge ≡ purge.At t) (g : Good (k .places)) where
-    placed : placeAt (getElem? (held.listOf (k .places)) i) ≡ placeOf i (contentAt s issue start)
-    placed = ap (λ (p : Purge). placeOf i (contentOf p (k .places))) (sym q) ∙ ap (placeOf i) e
+    placed : placeAt (getElem? (held.listOf (k .places)) i) ≡ placeAnswer i (contentAt s issue start)
+    placed = ap (λ (p : Purge). placeAnswer i (contentOf p (k .places))) (sym q) ∙ ap (placeAnswer i) e
 
     long : length (held.listOf (k .places)) ≡ k .places .count
     long = length-take-le (k .places .count) (k .places .held) (omega (arith, g .long, g .few))
 
-    pub place-far : k .places .count ≤ i → (r : Reply) → r ≡ reply.Refused (refusalFor outOfRange 0) → paperReply r ≡ placeOf i (contentAt s issue start)
+    pub place-far : k .places .count ≤ i → (r : Reply) → r ≡ reply.Refused (refusalFor outOfRange 0) → paperReply r ≡ placeAnswer i (contentAt s issue start)
     place-far h r er = ap paperReply er ∙ ap placeAt (sym (at-none (held.listOf (k .places)) i (omega (arith, long)))) ∙ placed
 
-    pub place-in : i < k .places .count → (w : ℕ) → w ≡ getD (k .places .held) i 0 → paperReply (reply.Number w) ≡ placeOf i (contentAt s issue start)
+    pub place-in : i < k .places .count → (w : ℕ) → w ≡ getD (k .places .held) i 0 → paperReply (reply.Number w) ≡ placeAnswer i (contentAt s issue start)
     place-in h w ew =
         ap (λ (p : ℕ). paperReply (reply.Number p)) (ew ∙ sym (getD-take (k .places .count) (k .places .held) i 0 h))
         ∙ ap placeAt (sym (at-some (held.listOf (k .places)) i 0 (omega (arith, long)))) ∙ placed
@@ -82,7 +82,7 @@ module _ (s : List ℕ) (year month n i : ℕ) where
   unfolding placeIn andThen
   rule-no number place e = rw e
 
-  rule-ok : (b : rule.Bulletin) → readBulletin s year month ≡ ok b → placeIn s year month n i ≡ placeOf i (orNoSegment (at (contentsOf b) n))
+  rule-ok : (b : rule.Bulletin) → readBulletin s year month ≡ ok b → placeIn s year month n i ≡ placeAnswer i (orNoSegment (at (contentsOf b) n))
   unfolding placeIn andThen
   rule-ok b e = rw e
 
@@ -102,7 +102,7 @@ module _ (s : List ℕ) (year month n i : ℕ) where
       pub find-low : n < 1 → (r : Reply) → r ≡ reply.Refused (refusalFor noSuchSegment 0) → paperReply r ≡ placeIn s year month n i
       find-low k r er =
           let z : n ≡ 0 = omega arith in
-          ap paperReply er ∙ ap (λ (m : ℕ). placeOf i (orNoSegment (at (contentsOf (told .said)) m))) (sym z) ∙ sym (rule-ok (told .said) (told .read))
+          ap paperReply er ∙ ap (λ (m : ℕ). placeAnswer i (orNoSegment (at (contentsOf (told .said)) m))) (sym z) ∙ sym (rule-ok (told .said) (told .read))
 
       module _ (z : Sized (b .segments)) where
         many : length (told .said .segments) ≡ b .segments .count
@@ -117,17 +117,17 @@ module _ (s : List ℕ) (year month n i : ℕ) where
         pub find-far : b .segments .count < n → (r : Reply) → r ≡ reply.Refused (refusalFor noSuchSegment 0) → paperReply r ≡ placeIn s year month n i
         find-far k r er =
             let one : n ≡ suc (n - 1) = omega arith in
-            ap paperReply er ∙ ap (λ (o : Option codes.Content). placeOf i (orNoSegment o)) (sym (at-none (contentsOf (told .said)) (n - 1) (omega (arith, many-contents))))
-            ∙ ap (λ (m : ℕ). placeOf i (orNoSegment (at (contentsOf (told .said)) m))) (sym one) ∙ sym (rule-ok (told .said) (told .read))
+            ap paperReply er ∙ ap (λ (o : Option codes.Content). placeAnswer i (orNoSegment o)) (sym (at-none (contentsOf (told .said)) (n - 1) (omega (arith, many-contents))))
+            ∙ ap (λ (m : ℕ). placeAnswer i (orNoSegment (at (contentsOf (told .said)) m))) (sym one) ∙ sym (rule-ok (told .said) (told .read))
 
         pub find-one : 1 ≤ n → n ≤ b .segments .count → (d : Segment) (r : Reply)
-            → paperReply r ≡ placeOf i (contentAt s (h .issue) (getD (b .segments .held) (n - 1) d .start)) → paperReply r ≡ placeIn s year month n i
+            → paperReply r ≡ placeAnswer i (contentAt s (h .issue) (getD (b .segments .held) (n - 1) d .start)) → paperReply r ≡ placeIn s year month n i
         find-one low high d r er =
             let one : n ≡ suc (n - 1) = omega arith in
             let same : getD (b .segments .held) (n - 1) d ≡ getD (map seen (told .said .segments)) (n - 1) d
             = sym (getD-take (b .segments .count) (b .segments .held) (n - 1) d (omega arith)) ∙ ap (λ (gs : List Segment). getD gs (n - 1) d) (told .seen-are) in
             er
-            ∙ ap₂ (λ (t : ℕ) (g : Segment). placeOf i (contentAt s t (g .start))) (told .issue) same
-            ∙ ap (placeOf i) (content-again s (told .said .issue) (told .said .segments) (n - 1) d (contents-read s year month (told .said) (told .read)) (omega (arith, many)))
-            ∙ ap (λ (m : ℕ). placeOf i (orNoSegment (at (contentsOf (told .said)) m))) (sym one)
+            ∙ ap₂ (λ (t : ℕ) (g : Segment). placeAnswer i (contentAt s t (g .start))) (told .issue) same
+            ∙ ap (placeAnswer i) (content-again s (told .said .issue) (told .said .segments) (n - 1) d (contents-read s year month (told .said) (told .read)) (omega (arith, many)))
+            ∙ ap (λ (m : ℕ). placeAnswer i (orNoSegment (at (contentsOf (told .said)) m))) (sym one)
             ∙ sym (rule-ok (told .said) (told .read))

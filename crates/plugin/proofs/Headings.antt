@@ -2,14 +2,14 @@
 use Prim.Native.Nat.{ℕ, zero, suc, _+_, _-_, _*_, _≤_, _<_}
 use native.Mathlib.Omega.{arith}
 use mathlib.Core.Path.{_≡_, refl, sym, _∙_, subst}
-use mathlib.Core.Bool.{true, _||_}
+use mathlib.Core.Bool.{Bool, true, false, cond, _||_}
 use mathlib.Core.List.{List, [], _∷_, _++_}
 use mathlib.Core.Option.{Option, none, some}
-use lib.ListN.{length, drop, getD, length-drop}
+use lib.ListN.{length, drop, getD, length-append, length-drop}
 use lib.Seq.{drop-drop}
 use lib.Dec.{leb, eqb}
 use borrow.Author.Tests.{leb-true, eqb-true}
-use Rattle.laws.proofs.Tests.{by, apart, either-way, and-left, and-right}
+use Rattle.laws.proofs.Tests.{by, apart, impossible, either-way, and-left, and-right}
 use Rattle.laws.proofs.Lists.{All, all-nil, all-cons, all-append, all-map, all-drop}
 use Rattle.refusal.specs.Numbers.{wrongHeading, wrongIdentifier, wrongStorm}
 use Rattle.lines.specs.Bytes.{Kind, between, capital, digit, is, word, begins, exactly}
@@ -19,18 +19,17 @@ use Rattle.calendar.specs.Calendar.{isTime}
 use Rattle.calendar.specs.declared.Stamp.{Stamp}
 use Rattle.codes.specs.Places.{twoOf}
 use Rattle.codes.specs.Elements.{stampOf}
-use Rattle.heading.specs.Heading.{Heading, times, headingForm, amendment, amendedForm, isHeading, headingOf, isIdentifier}
+use Rattle.heading.specs.Heading.{Heading, times, headingForm, amendment, amendedForm, isHeading, bbbAfter, headingOf, isIdentifier}
 use Rattle.heading.specs.Storm as storms
-use Rattle.heading.specs.Storm.{stormForm, namesStorm, basinOf, classOf, stormOf, identified, isOffice}
+use Rattle.heading.specs.Storm.{stormForm, namesStorm, basinOf, ClassName, classOf, StormName, StormSaid, stormOf, identified, isOffice}
+use Rattle.heading.specs.Paper.{paperBasin}
 use Rattle.heading.specs.declared.Basin.{Basin}
-use Rattle.heading.specs.declared.Class.{Class}
-use Rattle.heading.specs.declared.StormId.{StormId}
-use Rattle.heading.specs.declared.Storm.the-variants.{None, Found}
+use Rattle.heading.specs.declared.Basin.the-variants.{Al, Sl, Ep, Cp, Wp}
 use Rattle.bulletin.specs.Search.{closes}
 use Rattle.bulletin.specs.Mnd.{stormSaid, officeStorm, stormIn}
 use Rattle.bulletin.specs.Bulletin.{line1, line2, headed}
 use Rattle.packing.specs.Packing.{yearEnd}
-use Rattle.packing.proofs.Kept.{Byte, Small, small-none, small-found}
+use Rattle.packing.proofs.Kept.{Byte, Marked, unmarked, marked, Known, Small, small-none, small-some}
 use Rattle.plugin.proofs.Within.{Within, later-within, from-within, up-within, Low, low-ok, low-refused}
 
 -- ---- bytes of a form
@@ -84,9 +83,8 @@ letter-at zero (all-cons f a) = f .to
 letter-at (suc i) (all-cons f a) = letter-at i a
 
 -- ---- the BBB
-pub record Marked (h : Heading) : Type 0 where
-  pub bytes : All Byte (h .bbb)
-  pub few : length (h .bbb) ≤ 3
+abbrev MarkedOn : Heading → Type 0
+MarkedOn h = Marked (h .bbb)
 
 safe-heading : All Safe headingForm
 safe-heading =
@@ -103,14 +101,22 @@ safe-amended w a = all-append safe-heading (all-append safe-space (all-append a 
 twice : (c : ℕ) → 1 ≤ c → c ≤ 90 → All Safe (is c ∷ is c ∷ [])
 twice c h k = all-cons (safe-is c h k) (all-cons (safe-is c h k) all-nil)
 
-rest-marked : (s : List ℕ) (stamp : Stamp) → All Letter s → length s ≤ 22 → Marked (record { stamp = stamp; bbb = drop 19 s })
-rest-marked s stamp a h =
-    record {
-      bytes = all-map (λ b f. record { from = f .from; below = omega (arith, f .to) }) (all-drop 19 a);
-      few = omega (arith, length-drop 19 s);
-    }
+plain-marked : (t : List ℕ) → length t ≡ 0 → Marked (bbbAfter t)
+plain-marked [] h = unmarked
+plain-marked (b ∷ t) h = impossible (omega arith)
 
-heading-marked : (s : List ℕ) → isHeading s ≡ true → Marked (record { stamp = stampOf (drop 12 s); bbb = drop 19 s })
+amended-marked : (t : List ℕ) → All Letter t → length t ≡ 4 → Marked (bbbAfter t)
+amended-marked [] a h = impossible (omega arith)
+amended-marked (space ∷ bbb) (all-cons f a) h = marked (all-map (λ b f. record { from = f .from; below = omega (arith, f .to) }) a) (omega arith)
+
+-- the line has one of the forms with a BBB
+form-marked : (s : List ℕ) (w : List Kind) → All Safe w → length w ≡ 2 → exactly (headingForm ++ (word " " ++ (w ++ (amendment ∷ [])))) s ≡ true → Marked (bbbAfter (drop 18 s))
+form-marked s w a h e =
+    let ks = headingForm ++ (word " " ++ (w ++ (amendment ∷ []))) in
+    let long : length ks ≡ 22 = simp length-append (omega (arith, h)) in
+    amended-marked (drop 18 s) (all-drop 18 (letters ks s (safe-amended w a) e)) (omega (arith, length-drop 18 s, exactly-long ks s e, long))
+
+heading-marked : (s : List ℕ) → isHeading s ≡ true → Marked (bbbAfter (drop 18 s))
 unfolding isHeading
 heading-marked s e =
     let t = isTime (stampOf (drop 12 s)) in
@@ -119,22 +125,20 @@ heading-marked s e =
     let c = exactly (amendedForm "CC") s in
     let r = exactly (amendedForm "RR") s in
     let forms : (p || a || c || r) ≡ true = and-left (p || a || c || r) t e in
-    let mark = rest-marked s (stampOf (drop 12 s)) in
-    by p (λ q. mark (letters headingForm s safe-heading q) (omega (arith, exactly-long headingForm s q)))
-    λ np. by a (λ q. mark (letters (amendedForm "AA") s (safe-amended (word "AA") (twice 65 (omega arith) (omega arith))) q) (omega (arith, exactly-long (amendedForm "AA") s q)))
-    λ na. by c (λ q. mark (letters (amendedForm "CC") s (safe-amended (word "CC") (twice 67 (omega arith) (omega arith))) q) (omega (arith, exactly-long (amendedForm "CC") s q)))
-    λ nc. let q : r ≡ true = rw (np, na, nc) at forms in
-    mark (letters (amendedForm "RR") s (safe-amended (word "RR") (twice 82 (omega arith) (omega arith))) q) (omega (arith, exactly-long (amendedForm "RR") s q))
+    by p (λ q. plain-marked (drop 18 s) (omega (arith, length-drop 18 s, exactly-long headingForm s q)))
+    λ np. by a (λ q. form-marked s (word "AA") (twice 65 (omega arith) (omega arith)) refl q)
+    λ na. by c (λ q. form-marked s (word "CC") (twice 67 (omega arith) (omega arith)) refl q)
+    λ nc. form-marked s (word "RR") (twice 82 (omega arith) (omega arith)) refl (rw (np, na, nc) at forms)
 
-headed-low : (n : ℕ) (s : List ℕ) → Low n Marked (headed (headingOf s))
+headed-low : (n : ℕ) (s : List ℕ) → Low n MarkedOn (headed (headingOf s))
 unfolding headingOf
 headed-low n s =
     by (isHeading s)
     (λ t. rw t (low-ok _ (heading-marked s t)))
-    (λ t. rw t (low-refused n Marked wrongHeading 0 (omega arith)))
+    (λ t. rw t (low-refused n MarkedOn wrongHeading 0 (omega arith)))
 
-pub line1-low : (n : ℕ) (ls : List Line) → Low n Marked (line1 ls)
-line1-low n [] = low-refused n Marked wrongHeading 0 (omega arith)
+pub line1-low : (n : ℕ) (ls : List Line) → Low n (λ (h : Heading). Marked (h .bbb)) (line1 ls)
+line1-low n [] = low-refused n MarkedOn wrongHeading 0 (omega arith)
 line1-low n (l ∷ ls) = headed-low n (l .body)
 
 -- ---- the identifier
@@ -144,7 +148,7 @@ line2-low n stop h (all-cons {x = l} f a) =
     either-way (Low n (λ (at : ℕ). at ≤ n)) (isIdentifier (l .body)) (low-ok (l .start) (f .start)) (low-refused n (λ (at : ℕ). at ≤ n) wrongIdentifier (l .start) (f .start))
 
 -- ---- the storm
-class-most : (k : ℕ) (c : Class) → classOf k ≡ some c → k ≤ 99
+class-most : (k : ℕ) (c : ClassName) → classOf k ≡ some c → k ≤ 99
 unfolding classOf
 class-most k c e =
     by (between 1 49 k) (λ t. within 1 49 (omega arith) t)
@@ -170,32 +174,47 @@ end-letters s e =
     let k : length s - 9 + 1 ≡ length s - 8 = omega (arith, length-drop (length s - 9) s) in
     subst (λ (j : ℕ). All Letter (drop j s)) k (subst (All Letter) (drop-drop 1 (length s - 9) s) (all-drop 1 (letters stormForm t safe-storm e)))
 
-identified-small : (b : Option Basin) (k y : ℕ) (c : Option Class) (id : StormId) → classOf k ≡ c → y < yearEnd → identified b c k y ≡ storms.storm id → Small (Found id)
-identified-small none k y c id q h e = apart cc
-identified-small (some b) k y none id q h e = apart cc
-identified-small (some b) k y (some c) id q h e =
-    let same : record { basin = b; class = c; number = k; year = y } ≡ id = cc in
-    subst (λ (i : StormId). Small (Found i)) same (small-found (omega (arith, class-most k c q)) h)
+one-known : (w : Basin) (t : Bool) (rest : Option (List ℕ)) (b : List ℕ) → cond t (some (paperBasin w)) rest ≡ some b → (rest ≡ some b → Known b) → Known b
+one-known w true rest b e f = record { basin = w; same = cc }
+one-known w false rest b e f = f e
 
-storm-small : (s : List ℕ) (id : StormId) → stormOf s ≡ storms.storm id → Small (Found id)
+basin-known : (e b : List ℕ) → basinOf e ≡ some b → Known b
+unfolding basinOf
+basin-known e b h =
+    one-known Al (begins (word "AL") e) _ b h
+    λ h1. one-known Sl (begins (word "SL") e) _ b h1
+    λ h2. one-known Ep (begins (word "EP") e) _ b h2
+    λ h3. one-known Cp (begins (word "CP") e) _ b h3
+    λ h4. one-known Wp (begins (word "WP") e) none b h4
+    λ h5. apart cc
+
+identified-small : (d : List ℕ) (b : Option (List ℕ)) (k y : ℕ) (c : Option ClassName) (x : StormName) → basinOf d ≡ b → classOf k ≡ c → y < yearEnd
+    → identified b c k y ≡ storms.storm x → Small (some x)
+identified-small d none k y c x p q h e = apart cc
+identified-small d (some b) k y none x p q h e = apart cc
+identified-small d (some b) k y (some c) x p q h e =
+    let same : record { basin = b; class = c; number = k; year = y } ≡ x = cc in
+    subst (λ (s : StormName). Small (some s)) same (small-some (basin-known d b p) (omega (arith, class-most k c q)) h)
+
+storm-small : (s : List ℕ) (x : StormName) → stormOf s ≡ storms.storm x → Small (some x)
 unfolding stormOf
-storm-small s id e =
+storm-small s x e =
     by (namesStorm s)
     (λ t.
     let d = drop (length s - 8) s in
     let a : All Letter d = end-letters s t in
-    let f : storms.stormIn d ≡ storms.storm id = rw t at e in
-    identified-small (basinOf d) (twoOf (drop 2 d)) (100 * twoOf (drop 4 d) + twoOf (drop 6 d)) (classOf (twoOf (drop 2 d))) id refl
+    let f : storms.stormSpelled d ≡ storms.storm x = rw t at e in
+    identified-small d (basinOf d) (twoOf (drop 2 d)) (100 * twoOf (drop 4 d) + twoOf (drop 6 d)) (classOf (twoOf (drop 2 d))) x refl refl
     (omega (arith, two-most (drop 4 d) (all-drop 4 a), two-most (drop 6 d) (all-drop 6 a))) f)
-    (λ t. let f : storms.noStorm ≡ storms.storm id = rw t at e in apart cc)
+    (λ t. let f : storms.noStorm ≡ storms.storm x = rw t at e in apart cc)
 
-said-low : (n : ℕ) (l : Line) → Within n l → (x : storms.Said) → stormOf (l .body) ≡ x → Low n Small (stormSaid l x)
-said-low n l f storms.noStorm e = low-ok None small-none
-said-low n l f (storms.storm id) e = low-ok (Found id) (storm-small (l .body) id e)
+said-low : (n : ℕ) (l : Line) → Within n l → (x : StormSaid) → stormOf (l .body) ≡ x → Low n Small (stormSaid l x)
+said-low n l f storms.noStorm e = low-ok none small-none
+said-low n l f (storms.storm name) e = low-ok (some name) (storm-small (l .body) name e)
 said-low n l f storms.wrongStorm e = low-refused n Small wrongStorm (l .start + (length (l .body) - 8)) (omega (arith, f .start, f .end))
 
 office-low : (n : ℕ) {ls : List Line} → All (Within n) ls → Low n Small (officeStorm ls)
-office-low n all-nil = low-ok None small-none
+office-low n all-nil = low-ok none small-none
 office-low n (all-cons {x = l} f a) = said-low n l f (stormOf (l .body)) refl
 
 pub storm-low : (n : ℕ) {ls : List Line} → All (Within n) ls → Low n Small (stormIn ls)

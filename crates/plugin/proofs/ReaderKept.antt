@@ -18,7 +18,7 @@ use Rattle.calendar.specs.declared.Date.{Date}
 use Rattle.codes.specs.Places.{capacity, isSet}
 use Rattle.codes.specs.Block as codes
 use Rattle.heading.specs.Heading.{Heading}
-use Rattle.heading.specs.declared.Storm.{Storm}
+use Rattle.heading.specs.Storm.{StormName}
 use Rattle.writing.specs.Write.{datedBlock, writtenBlock, fitting, writeRule, lengthOf}
 use Rattle.blocks.specs.Block.{bookLength}
 use Rattle.blocks.specs.Content.{isContent}
@@ -40,22 +40,23 @@ use Rattle.bulletin.specs.View.{numbered, viewOf, partOf}
 use Rattle.bulletin.specs.declared.Segment.{Segment}
 use Rattle.making.specs.Make.{bookFrom, makeRule, madeAnswer, orNoSegment, writeOn}
 use Rattle.making.proofs.Sounding.{made-issue, made-count, made-fine}
-use Rattle.packing.specs.Packing.{restEnd, pack, unpack, answered, packed, valueBits, nothing, noValue, plain, spelled, unspelled, viewed, viewBits, viewIn, stormBits, stormIn}
-use Rattle.plugin.specs.Rules.{issueIn, countIn, bbbIn, identifierIn, stormBitsIn, viewBitsOf, blockEndOf, purgeOf, countOf, contentsOf, placeOf, placeIn}
-use Rattle.packing.proofs.Kept.{Kept, kept-ok, kept-no, back, refused-kept, Returns, part-back, small, spelled-low, unspelled-spelled, view-low, view-back, storm-low, storm-back, Small}
+use Rattle.packing.specs.Packing.{restEnd, pack, unpack, answered, packed, valueBits, nothing, noValue, plain, viewed, viewBits, viewBack, bbbBits, bbbBack, stormBits, stormBack}
+use Rattle.plugin.specs.Rules.{issueIn, countIn, bbbIn, identifierIn, stormBitsIn, viewBitsOf, blockEndOf, purgeMinuteOf, countOf, contentsOf, placeAnswer, placeIn}
+use Rattle.packing.proofs.Kept.{Kept, kept-ok, kept-no, back, refused-kept, Returns, part-back, small, view-low, view-back, Marked, bbb-low, storm-low, storm-back, Small}
+use Rattle.packing.proofs.Kept as kept
 use Rattle.plugin.proofs.BookKept.{place-kept}
 use Rattle.plugin.proofs.Within.{text-within, later-within, Low, low-ok, low-no, low-refused, low-then, low-must, Any, check-low, Lies, list-low}
 use Rattle.plugin.proofs.Headings as headings
-use Rattle.plugin.proofs.Headings.{Marked, line1-low, line2-low}
+use Rattle.plugin.proofs.Headings.{line1-low, line2-low}
 
 -- ---- what a bulletin that is read holds, and where a refusal lies
 pub record Bounded (b : Bulletin) : Type 0 where
-  pub marked : Marked (b .heading)
+  pub marked : Marked (b .heading .bbb)
   pub identifier : b .identifier ≤ textMost
   pub storm : Small (b .storm)
   pub segments : All (Lies textMost) (b .segments)
 
-bounded : (h : Heading) (at issue : ℕ) (s : Storm) (gs : List segments.Segment) → Marked h → at ≤ textMost → Small s → All (Lies textMost) gs
+bounded : (h : Heading) (at issue : ℕ) (s : Option StormName) (gs : List segments.Segment) → Marked (h .bbb) → at ≤ textMost → Small s → All (Lies textMost) gs
     → Bounded (record { heading = h; identifier = at; issue = issue; storm = s; segments = gs })
 bounded h at issue s gs m i small a = record { marked = m; identifier = i; storm = small; segments = a }
 
@@ -103,7 +104,7 @@ reportOn b = record { heading = b .heading; identifier = b .identifier; issue = 
 record Sized (r : Report) : Type 0 where
   issue : r .issue < 4294967296
   count : length (r .segments) ≤ 8
-  marked : Marked (r .heading)
+  marked : Marked (r .heading .bbb)
   identifier : r .identifier ≤ textMost
   storm : Small (r .storm)
 
@@ -169,17 +170,13 @@ module _ (text : List ℕ) (year month : ℕ) where
   pub identifier-back : unpack plain (pack identifierIn Read) ≡ answered identifierIn Read
   identifier-back = part-kept identifierIn plain plain (λ r z. small (r .identifier) (omega (arith, z .identifier)))
 
-  pub bbb-back : unpack (unspelled 3) (pack bbbIn Read) ≡ answered (λ (r : Report). r .heading .bbb) Read
+  pub bbb-back : unpack bbbBack (pack bbbIn Read) ≡ answered (λ (r : Report). r .heading .bbb) Read
   bbb-back =
-      part-kept (λ (r : Report). r .heading .bbb) spelled (unspelled 3)
-      (λ r z.
-      record {
-        low = omega (arith, spelled-low (r .heading .bbb) (z .marked .few));
-        same = unspelled-spelled 3 (r .heading .bbb) (z .marked .bytes) (z .marked .few);
-      })
+      part-kept (λ (r : Report). r .heading .bbb) bbbBits bbbBack
+      (λ r z. record { low = omega (arith, bbb-low (r .heading .bbb) (z .marked)); same = kept.bbb-back (r .heading .bbb) (z .marked) })
 
-  pub storm-kept : unpack stormIn (pack stormBitsIn Read) ≡ answered (λ (r : Report). r .storm) Read
-  storm-kept = part-kept (λ (r : Report). r .storm) stormBits stormIn (λ r z. record { low = storm-low (r .storm); same = storm-back (r .storm) (z .storm) })
+  pub storm-kept : unpack stormBack (pack stormBitsIn Read) ≡ answered (λ (r : Report). r .storm) Read
+  storm-kept = part-kept (λ (r : Report). r .storm) stormBits stormBack (λ r z. record { low = storm-low (r .storm) (z .storm); same = storm-back (r .storm) (z .storm) })
 
 -- ---- of a segment
 numbered-low : (n : ℕ) (gs : List Segment) → All Fits gs → Low textMost Fits (numbered n gs)
@@ -201,22 +198,22 @@ module _ (text : List ℕ) (year month n : ℕ) where
       → unpack value (pack (λ (g : Segment). bits (part g)) Viewed) ≡ answered part Viewed
   seen-kept part bits value f = part-back part bits value Viewed (low-kept part bits value Fits f view-fits)
 
-  pub view-kept : unpack viewIn (pack viewBitsOf Viewed) ≡ answered viewed Viewed
+  pub view-kept : unpack viewBack (pack viewBitsOf Viewed) ≡ answered viewed Viewed
   view-kept =
-      seen-kept viewed viewBits viewIn
+      seen-kept viewed viewBits viewBack
       (λ g f. record { low = view-low (viewed g); same = view-back (viewed g) (omega (arith, f .start)) (omega (arith, f .past)) })
 
   pub block-end-back : unpack plain (pack blockEndOf Viewed) ≡ answered blockEndOf Viewed
   block-end-back = seen-kept blockEndOf plain plain (λ g f. small (g .block) (omega (arith, f .block)))
 
-  pub purge-back : unpack plain (pack purgeOf Viewed) ≡ answered purgeOf Viewed
-  purge-back = seen-kept purgeOf plain plain (λ g f. small (g .purge) (f .purge))
+  pub purge-back : unpack plain (pack purgeMinuteOf Viewed) ≡ answered purgeMinuteOf Viewed
+  purge-back = seen-kept purgeMinuteOf plain plain (λ g f. small (g .purge) (f .purge))
 
   pub places-back : unpack plain (pack countOf Viewed) ≡ answered countOf Viewed
   places-back = seen-kept countOf plain plain (λ g f. small (g .count) (omega (arith, f .count)))
 
 -- the bytes at a view are the part of the text that the reader hands back
-pub view-part : (g : Segment) (text : List ℕ) → take (viewed g .length) (drop (viewed g .start) text) ≡ partOf (ok g) text
+pub view-part : (g : Segment) (text : List ℕ) → take (viewed g .size) (drop (viewed g .start) text) ≡ partOf (ok g) text
 view-part g text = refl
 
 -- ---- the place at an index
@@ -224,12 +221,12 @@ module _ (text : List ℕ) (year month n i : ℕ) where
   contents-fine : (b : Bulletin) → readBulletin text year month ≡ ok b → All (Fine (b .issue)) (contentsOf b)
   contents-fine b e = all-each (λ (g : segments.Segment). g .content) (λ g f. f) (made-fine text year month b e)
 
-  place-of : (issue : ℕ) (o : Option codes.Content) → ((c : codes.Content) → o ≡ some c → Fine issue c) → Kept valueBits number (placeOf i (orNoSegment o))
+  place-of : (issue : ℕ) (o : Option codes.Content) → ((c : codes.Content) → o ≡ some c → Fine issue c) → Kept valueBits number (placeAnswer i (orNoSegment o))
   place-of issue none f = refused-kept valueBits number noSuchSegment 0 (omega arith)
   place-of issue (some c) f = place-kept (c .places) i (set-true (c .places) (fine-places issue c (f c refl)) .up) (getElem? (c .places) i) refl
 
   place-in : (a : Answer Bulletin) → readBulletin text year month ≡ a → Low textMost Bounded a
-      → Kept valueBits number (andThen a (λ (b : Bulletin). placeOf i (orNoSegment (at (contentsOf b) n))))
+      → Kept valueBits number (andThen a (λ (b : Bulletin). placeAnswer i (orNoSegment (at (contentsOf b) n))))
   unfolding andThen
   place-in (ok b) e l = place-of (b .issue) (at (contentsOf b) n) (λ c q. all-stands (contentsOf b) n c (contents-fine b e) q .is)
   place-in (no _ _) e (low-no reason place one most h) = kept-no {reason = reason} {place = place} one most (omega arith)

@@ -7,7 +7,7 @@ use lib.ListN.{length}
 use lib.Seq.{length-take-le}
 use Rattle.refusal.specs.declared.Refusal.{Refusal}
 use Rattle.refusal.specs.Answer.{Answer}
-use Rattle.heading.specs.Paper.{paperBbb}
+use Rattle.heading.specs.Paper.{paperBbb, paperStorm}
 use Rattle.bulletin.specs.Bulletin.{readBulletin}
 use Rattle.bulletin.specs.Seen.{listOf, Sized}
 use Rattle.bulletin.specs.Report.{Report, reported, reportOf, readingOf, paperBulletin}
@@ -19,8 +19,8 @@ use Rattle.bulletin.specs.declared.Reading.the-variants as reading
 use Rattle.bulletin.specs.declared.Bulletin.{Bulletin}
 use Rattle.bulletin.specs.declared.Viewed.{Viewed}
 use Rattle.bulletin.specs.declared.Viewed.the-variants as viewed
-use Rattle.packing.specs.Packing.{cell, pack, spelled, stormBits, viewBits}
-use Rattle.plugin.specs.Rules.{issueIn, countIn, bbbIn, identifierIn, stormBitsIn, viewBitsOf, blockEndOf, purgeOf, countOf}
+use Rattle.packing.specs.Packing.{cell, pack, bbbBits, stormBits, viewBits}
+use Rattle.plugin.specs.Rules.{issueIn, countIn, bbbIn, identifierIn, stormBitsIn, viewBitsOf, blockEndOf, purgeMinuteOf, countOf}
 
 -- ---- of a bulletin
 module _ (s : List ℕ) (year month : ℕ) (b : Bulletin) (eb : paperBulletin b ≡ reported (readBulletin s year month)) where
@@ -42,13 +42,13 @@ module _ (s : List ℕ) (year month : ℕ) (b : Bulletin) (eb : paperBulletin b 
     pub read-count : Sized (b .segments) → (r : ℕ) → r ≡ cell 0 (b .segments .count) → r ≡ pack countIn (reported (readBulletin s year month))
     read-count z r e = read-ok countIn (b .segments .count) r (sym (length-take-le (b .segments .count) (b .segments .held) (omega (arith, z .long, z .few)))) e
 
-    pub read-bbb : (n : ℕ) → n ≡ spelled (paperBbb (h .heading .bbb)) → (r : ℕ) → r ≡ cell 0 n → r ≡ pack bbbIn (reported (readBulletin s year month))
+    pub read-bbb : (n : ℕ) → n ≡ bbbBits (paperBbb (h .heading .bbb)) → (r : ℕ) → r ≡ cell 0 n → r ≡ pack bbbIn (reported (readBulletin s year month))
     read-bbb n en r e = read-ok bbbIn n r en e
 
     pub read-identifier : (r : ℕ) → r ≡ cell 0 (h .identifier) → r ≡ pack identifierIn (reported (readBulletin s year month))
     read-identifier r e = read-ok identifierIn (h .identifier) r refl e
 
-    pub read-storm : (n : ℕ) → n ≡ stormBits (h .storm) → (r : ℕ) → r ≡ cell 0 n → r ≡ pack stormBitsIn (reported (readBulletin s year month))
+    pub read-storm : (n : ℕ) → n ≡ stormBits (paperStorm (h .storm)) → (r : ℕ) → r ≡ cell 0 n → r ≡ pack stormBitsIn (reported (readBulletin s year month))
     read-storm n en r e = read-ok stormBitsIn n r en e
 
 -- ---- of a segment
@@ -65,14 +65,14 @@ module _ (a : Answer Segment) (v : Viewed) (ev : paperViewed v ≡ a) where
     unfolding pack
     seen-ok f n r en e = as-seen f (viewed.One g) r q (e ∙ ap (cell 0) en)
 
-    pub seen-view : (n : ℕ) → n ≡ viewBits (record { start = g .start; length = g .past - g .start }) → (r : ℕ) → r ≡ cell 0 n → r ≡ pack viewBitsOf a
+    pub seen-view : (n : ℕ) → n ≡ viewBits (record { start = g .start; size = g .past - g .start }) → (r : ℕ) → r ≡ cell 0 n → r ≡ pack viewBitsOf a
     seen-view n en r e = seen-ok viewBitsOf n r en e
 
     pub seen-block : (r : ℕ) → r ≡ cell 0 (g .block) → r ≡ pack blockEndOf a
     seen-block r e = seen-ok blockEndOf (g .block) r refl e
 
-    pub seen-purge : (r : ℕ) → r ≡ cell 0 (g .purge) → r ≡ pack purgeOf a
-    seen-purge r e = seen-ok purgeOf (g .purge) r refl e
+    pub seen-purge : (r : ℕ) → r ≡ cell 0 (g .purge) → r ≡ pack purgeMinuteOf a
+    seen-purge r e = seen-ok purgeMinuteOf (g .purge) r refl e
 
     pub seen-count : (r : ℕ) → r ≡ cell 0 (g .count) → r ≡ pack countOf a
     seen-count r e = seen-ok countOf (g .count) r refl e

@@ -12,7 +12,7 @@ use Rattle.bulletin.specs.Segments as segments
 use Rattle.bulletin.specs.Report.{Report}
 use Rattle.bulletin.specs.declared.Segment.{Segment}
 use Rattle.making.specs.Make.{orNoSegment}
-use Rattle.packing.specs.Packing.{spelled, stormBits, viewed, viewBits}
+use Rattle.packing.specs.Packing.{bbbBits, stormBits, viewed, viewBits}
 
 -- ---- of a bulletin
 abbrev pub issueIn : Report → ℕ
@@ -22,7 +22,7 @@ abbrev pub countIn : Report → ℕ
 countIn r = length (r .segments)
 
 abbrev pub bbbIn : Report → ℕ
-bbbIn r = spelled (r .heading .bbb)
+bbbIn r = bbbBits (r .heading .bbb)
 
 abbrev pub identifierIn : Report → ℕ
 identifierIn r = r .identifier
@@ -37,8 +37,8 @@ viewBitsOf g = viewBits (viewed g)
 abbrev pub blockEndOf : Segment → ℕ
 blockEndOf g = g .block
 
-abbrev pub purgeOf : Segment → ℕ
-purgeOf g = g .purge
+abbrev pub purgeMinuteOf : Segment → ℕ
+purgeMinuteOf g = g .purge
 
 abbrev pub countOf : Segment → ℕ
 countOf g = g .count
@@ -47,11 +47,11 @@ countOf g = g .count
 abbrev pub contentsOf : Bulletin → List Content
 contentsOf b = map (λ (g : segments.Segment). g .content) (b .segments)
 
-abbrev pub placeOf : ℕ → Answer Content → calls.Answer
-placeOf i (ok c) = placeAt (getElem? (c .places) i)
-placeOf i (no reason place) = no reason place
+abbrev pub placeAnswer : ℕ → Answer Content → calls.Answer
+placeAnswer i (ok c) = placeAt (getElem? (c .places) i)
+placeAnswer i (no reason place) = no reason place
 
 unfoldable pub placeIn : List ℕ → ℕ → ℕ → ℕ → ℕ → calls.Answer
 placeIn text year month n i =
     andThen (readBulletin text year month) λ b.
-    placeOf i (orNoSegment (at (contentsOf b) n))
+    placeAnswer i (orNoSegment (at (contentsOf b) n))

@@ -12,7 +12,7 @@ ghost use Rattle.steps.specs.Calls as calls;
 ghost use Rattle.layout.specs.Rule.{onBytes, paperReply};
 ghost use Rattle.making.specs.Make.{makeRule, madeAnswer, madeBytes, writeOn};
 ghost use Rattle.packing.specs.Packing.{pack, packed, nothing, plain};
-ghost use Rattle.plugin.specs.Rules.{issueIn, countIn, bbbIn, identifierIn, stormBitsIn, viewBitsOf, blockEndOf, purgeOf, countOf, placeOf, placeIn};
+ghost use Rattle.plugin.specs.Rules.{issueIn, countIn, bbbIn, identifierIn, stormBitsIn, viewBitsOf, blockEndOf, purgeMinuteOf, countOf, placeAnswer, placeIn};
 use bulletin::Reading;
 use bulletin::Viewed;
 use calendar::Stamp;
@@ -257,7 +257,7 @@ pub extern "C" fn hollgrimsa_block_end(text: &[u8], year: u64, month: u64, n: u6
 // Its purge minute.
 #[no_mangle]
 pub extern "C" fn hollgrimsa_purge(text: &[u8], year: u64, month: u64, n: u64) -> u64
-    ensures { λ r. ⌜ r ≡ pack purgeOf (viewOf (now (text .entry)) year month n) ⌝ }
+    ensures { λ r. ⌜ r ≡ pack purgeMinuteOf (viewOf (now (text .entry)) year month n) ⌝ }
 {
     match bulletin::find_segment(text, year as usize, month as usize, n as usize) {
         Viewed::One(g) => packing::cell(0, g.purge),
@@ -290,7 +290,7 @@ fn wide(p: u32) -> usize
 
 // The place at index i of the block that starts at a place of the text.
 fn place_at(text: &[u8], start: usize, issue: usize, i: usize) -> Reply
-    ensures { λ r. ⌜ paperReply r ≡ placeOf i (contentAt (now (text .entry)) issue start) ⌝ }
+    ensures { λ r. ⌜ paperReply r ≡ placeAnswer i (contentAt (now (text .entry)) issue start) ⌝ }
 {
     let content = reading::read_content(text, start, issue);
     let places = content.places;
