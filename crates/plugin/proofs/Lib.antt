@@ -5,3 +5,4 @@ pub mod BookKept
 pub mod Within
 pub mod Headings
 pub mod ReaderKept
+pub mod OneToOne

@@ -18,7 +18,6 @@ use bulletin::Viewed;
 use calendar::Stamp;
 use layout::Reply;
 use reading::Purge;
-use refusal::Refusal;
 
 // ---- the book
 // Makes a book of a bulletin.
@@ -276,18 +275,6 @@ pub extern "C" fn hollgrimsa_count(text: &[u8], year: u64, month: u64, n: u64) -
     }
 }
 
-fn refused(number: usize) -> Reply
-    ensures { λ r. ⌜ r ≡ Reply.Refused (record { number = number; place = 0 }) ⌝ }
-{
-    Reply::Refused(Refusal { number, place: 0 })
-}
-
-fn wide(p: u32) -> usize
-    ensures { λ r. ⌜ r ≡ p ⌝ }
-{
-    p as usize
-}
-
 // The place at index i of the block that starts at a place of the text.
 fn place_at(text: &[u8], start: usize, issue: usize, i: usize) -> Reply
     ensures { λ r. ⌜ paperReply r ≡ placeAnswer i (contentAt (now (text .entry)) issue start) ⌝ }
@@ -299,10 +286,10 @@ fn place_at(text: &[u8], start: usize, issue: usize, i: usize) -> Reply
         Purge::Refused(r) => Reply::Refused(r),
         Purge::At(_) => {
             if places.count <= i {
-                return refused(refusal::OUT_OF_RANGE);
+                return layout::refused(refusal::OUT_OF_RANGE);
             }
             let held = places.held;
-            Reply::Number(wide(held[i]))
+            Reply::Number(codes::wide(held[i]))
         }
     }
 }
@@ -318,10 +305,10 @@ fn find_place(text: &[u8], year: usize, month: usize, n: usize, i: usize) -> Rep
         Reading::Refused(r) => Reply::Refused(r),
         Reading::Accepted(head) => {
             if n < 1 {
-                return refused(refusal::NO_SUCH_SEGMENT);
+                return layout::refused(refusal::NO_SUCH_SEGMENT);
             }
             if segments.count < n {
-                return refused(refusal::NO_SUCH_SEGMENT);
+                return layout::refused(refusal::NO_SUCH_SEGMENT);
             }
             let held = segments.held;
             let k = n - 1;
