@@ -55,13 +55,13 @@ office-is (l ∷ ls) =
     by (closes (l .body)) (λ c. simp c) (λ c. by (isOffice (l .body)) (λ o. simp (c, o)) (λ o. simp (c, o) (office-is ls)))
 
 -- ---- the storm
-storm-long : (line : List ℕ) → stormOf line ≡ storm.wrongStorm → 9 ≤ length line
+storm-long : (line : List ℕ) → stormOf line ≡ storm.refusedStorm → 9 ≤ length line
 unfolding stormOf namesStorm
 storm-long line e =
     by (exactly stormForm (drop (length line - 9) line))
     (λ y. let n : length (drop (length line - 9) line) ≡ 9 = eqb-true _ 9 (and-left _ (begins stormForm (drop (length line - 9) line)) (sym (exactly-is stormForm (drop (length line - 9) line)) ∙ y)) in
     omega (arith, length-drop (length line - 9) line))
-    (λ y. let f : storm.noStorm ≡ storm.wrongStorm = rw y at e in apart cc)
+    (λ y. let f : storm.noStorm ≡ storm.refusedStorm = rw y at e in apart cc)
 
 module _ (s : List ℕ) (from : ℕ) (f : Found) (ef : foundLines s f ≡ fromFirst officeOrClose (linesOn s from)) where
   pub storm-none : f ≡ found.Nothing → paperStormed (stormed.Right named.None) ≡ officeStorm (fromFirst isOffice (upToFirst closes (linesOn s from)))

@@ -30,7 +30,7 @@ officeLines lines = fromFirst isOffice (mndLines lines)
 abbrev pub stormSaid : Line → StormSaid → Answer (Option StormName)
 stormSaid l storm.noStorm = ok none
 stormSaid l (storm.storm name) = ok (some name)
-stormSaid l storm.wrongStorm = refused wrongStorm (l .start + (length (l .body) - 8))
+stormSaid l storm.refusedStorm = refused wrongStorm (l .start + (length (l .body) - 8))
 
 abbrev pub officeStorm : List Line → Answer (Option StormName)
 officeStorm [] = ok none

@@ -1,4 +1,4 @@
--- The code's answers as document 01's: a heading or none, a storm, none or a wrong one.
+-- What the code's answers mean in document 01's values, and what a function inside says of the bytes behind DDHHMM.
 use Prim.Native.Nat.{ℕ}
 use mathlib.Core.List.{List, [], _∷_, _++_}
 use mathlib.Core.Bool.{Bool, _||_}
@@ -6,7 +6,7 @@ use mathlib.Core.Option.{Option, none, some}
 use Prim.Native.String.{String}
 use Rattle.lines.specs.Bytes.{Kind, bytes, word, begins}
 use Rattle.heading.specs.Heading as heading
-use Rattle.heading.specs.Storm.{ClassName, cyclone, internal, training, disturbance, StormName, StormSaid, noStorm, storm, wrongStorm}
+use Rattle.heading.specs.Storm.{ClassName, cyclone, internal, training, disturbance, StormName, StormSaid, noStorm, storm, refusedStorm}
 use Rattle.heading.specs.declared.Bbb.{Bbb}
 use Rattle.heading.specs.declared.Bbb.the-variants as bbb
 use Rattle.heading.specs.declared.Heading.{Heading}
@@ -77,4 +77,4 @@ paperStorm (found.Found id) = some (paperId id)
 abbrev pub paperNamed : Named → StormSaid
 paperNamed (named.Right found.None) = noStorm
 paperNamed (named.Right (found.Found id)) = storm (paperId id)
-paperNamed named.Wrong = wrongStorm
+paperNamed named.Wrong = refusedStorm

@@ -59,12 +59,12 @@ pub data StormSaid : Type 0 where
   -- "A found storm carries one of the four classes within it."
   storm : StormName → StormSaid
   -- "Another basin, or 00, is refused."
-  wrongStorm : StormSaid
+  refusedStorm : StormSaid
 
 -- the storm of eight bytes; "four digits of year, any"
 abbrev pub identified : Option (List ℕ) → Option ClassName → ℕ → ℕ → StormSaid
-identified none c n y = wrongStorm
-identified (some b) none n y = wrongStorm
+identified none c n y = refusedStorm
+identified (some b) none n y = refusedStorm
 identified (some b) (some c) n y = storm (record { basin = b; class = c; number = n; year = y })
 
 abbrev pub stormSpelled : List ℕ → StormSaid

@@ -211,7 +211,7 @@ storm-small s x e =
 said-low : (n : ℕ) (l : Line) → Within n l → (x : StormSaid) → stormOf (l .body) ≡ x → Low n Small (stormSaid l x)
 said-low n l f storms.noStorm e = low-ok none small-none
 said-low n l f (storms.storm name) e = low-ok (some name) (storm-small (l .body) name e)
-said-low n l f storms.wrongStorm e = low-refused n Small wrongStorm (l .start + (length (l .body) - 8)) (omega (arith, f .start, f .end))
+said-low n l f storms.refusedStorm e = low-refused n Small wrongStorm (l .start + (length (l .body) - 8)) (omega (arith, f .start, f .end))
 
 office-low : (n : ℕ) {ls : List Line} → All (Within n) ls → Low n Small (officeStorm ls)
 office-low n all-nil = low-ok none small-none

@@ -8,7 +8,8 @@ use lib.Dec.{eqb}
 use Rattle.lines.specs.Bytes.{digit, begins}
 use Rattle.lines.proofs.Strings.{begins-is}
 use Rattle.codes.specs.Places.{twoOf}
-use Rattle.printing.specs.Asked.{askedForm, askedOf, paperAsked}
+use Rattle.printing.specs.Asked.{askedForm, askedOf}
+use Rattle.printing.specs.Paper.{paperAsked}
 use Rattle.printing.specs.declared.Asked.the-variants.{Month, Wrong}
 
 module _ (s : List ℕ) (a b c d e f : Bool) (space end : ℕ) (ea : a ≡ digit (getD s 0 0)) (eb : b ≡ digit (getD s 1 0)) (ec : c ≡ digit (getD s 2 0)) (ed : d ≡ digit (getD s 3 0))

@@ -3,7 +3,8 @@ use mathlib.Core.Path.{_≡_, refl, ap₂}
 use mathlib.Core.Option.{Option}
 use Prim.Native.Nat.{ℕ}
 use Rattle.laws.proofs.Tests.{apart}
-use Rattle.printing.specs.Asked.{YearMonth, paperAsked}
+use Rattle.printing.specs.Asked.{YearMonth}
+use Rattle.printing.specs.Paper.{paperAsked}
 use Rattle.printing.specs.declared.Asked.{Asked}
 use Rattle.printing.specs.declared.Asked.the-variants.{Month, Wrong}
 

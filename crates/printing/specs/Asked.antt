@@ -7,8 +7,6 @@ use lib.ListN.{drop}
 use Rattle.lines.specs.Bytes.{Kind, digit, word, begins}
 use Rattle.heading.specs.Heading.{times}
 use Rattle.codes.specs.Places.{twoOf}
-use Rattle.printing.specs.declared.Asked.{Asked}
-use Rattle.printing.specs.declared.Asked.the-variants.{Month, Wrong}
 
 abbrev pub askedForm : List Kind
 askedForm = times 4 digit ++ (word " " ++ (times 2 digit ++ word "\n"))
@@ -20,7 +18,3 @@ pub record YearMonth : Type 0 where
 
 unfoldable pub askedOf : List ℕ → Option YearMonth
 askedOf s = cond (begins askedForm s) (some (record { year = 100 * twoOf s + twoOf (drop 2 s); month = twoOf (drop 5 s) })) none
-
-abbrev pub paperAsked : Asked → Option YearMonth
-paperAsked (Month year month) = some (record { year = year; month = month })
-paperAsked Wrong = none

@@ -13,7 +13,8 @@ use Rattle.laws.proofs.Tests.{by}
 use Rattle.lines.specs.Bytes.{digit, word, begins}
 use Rattle.lines.specs.Spans.{part}
 use Rattle.heading.specs.Heading.{times}
-use Rattle.printing.specs.Asked.{askedOf, paperAsked}
+use Rattle.printing.specs.Asked.{askedOf}
+use Rattle.printing.specs.Paper.{paperAsked}
 use Rattle.printing.specs.declared.Asked.{Asked}
 use Rattle.printing.specs.declared.Asked.the-variants as asked
 use Rattle.replay.specs.Lines.{decimal, lengthLine, startOf, front, numberAt, paperOpening, within}
