@@ -19,6 +19,8 @@ use Rattle.codes.specs.Places.{capacity, isSet}
 use Rattle.codes.specs.Block as codes
 use Rattle.heading.specs.Heading.{Heading}
 use Rattle.heading.specs.Storm.{StormName}
+use Rattle.writing.specs.Pen.{blockMost}
+use Rattle.writing.proofs.Bound.{written-most}
 use Rattle.writing.specs.Write.{datedBlock, writtenBlock, fitting, writeRule, lengthOf}
 use Rattle.blocks.specs.Block.{bookLength}
 use Rattle.blocks.specs.Content.{isContent}
@@ -40,7 +42,7 @@ use Rattle.bulletin.specs.View.{numbered, viewOf, partOf}
 use Rattle.bulletin.specs.declared.Segment.{Segment}
 use Rattle.making.specs.Make.{bookFrom, makeRule, madeAnswer, orNoSegment, writeOn}
 use Rattle.making.proofs.Sounding.{made-issue, made-count, made-fine}
-use Rattle.packing.specs.Packing.{restEnd, pack, unpack, answered, packed, valueBits, nothing, noValue, plain, viewed, viewBits, viewBack, bbbBits, bbbBack, stormBits, stormBack}
+use Rattle.packing.specs.Packing.{pack, unpack, answered, packed, valueBits, nothing, noValue, plain, viewed, viewBits, viewBack, bbbBits, bbbBack, stormBits, stormBack}
 use Rattle.plugin.specs.Rules.{issueIn, countIn, bbbIn, identifierIn, stormBitsIn, viewBitsOf, blockEndOf, purgeMinuteOf, countOf, contentsOf, placeAnswer, placeIn}
 use Rattle.packing.proofs.Kept.{Kept, kept-ok, kept-no, back, refused-kept, Returns, part-back, small, view-low, view-back, Marked, bbb-low, storm-low, storm-back, Small}
 use Rattle.packing.proofs.Kept as kept
@@ -250,31 +252,33 @@ module _ (l text : List ℕ) (year month : ℕ) where
   pub make-back : unpack noValue (pack nothing (madeAnswer (makeRule l text year month))) ≡ madeAnswer (makeRule l text year month)
   make-back = back nothing noValue (madeAnswer (makeRule l text year month)) (made-kept (makeRule l text year month) make-low)
 
--- ---- the writer, into an output that is shorter than 2^56 bytes
-module _ (room : ℕ) (h : room < restEnd) where
-  abbrev Short : List ℕ → Type 0
-  Short block = length block < restEnd
+-- ---- the writer: a block is short
+abbrev Short : List ℕ → Type 0
+Short block = length block ≤ blockMost
 
-  written-kept : (a : Answer (List ℕ)) → Low textMost Short a → Kept plain plain (lengthOf a)
-  written-kept (ok _) (low-ok block k) = kept-ok (length block) k refl
-  written-kept (no _ _) (low-no reason place one most k) = kept-no {reason = reason} {place = place} one most (omega arith)
+written-kept : (a : Answer (List ℕ)) → Low textMost Short a → Kept plain plain (lengthOf a)
+written-kept (ok _) (low-ok block k) = kept-ok (length block) (omega arith) refl
+written-kept (no _ _) (low-no reason place one most k) = kept-no {reason = reason} {place = place} one most (omega arith)
 
-  dated-block : (ps : List ℕ) (o : Option Date) → Low textMost Any (datedBlock ps o)
-  dated-block ps none = low-refused textMost Any outOfRange 0 (omega arith)
-  dated-block ps (some d) = low-ok _ tt
+dated-low : (ps : List ℕ) → isSet ps ≡ true → (o : Option Date) → Low textMost Short (datedBlock ps o)
+dated-low ps t none = low-refused textMost Short outOfRange 0 (omega arith)
+dated-low ps t (some d) = low-ok _ (written-most ps (d .stamp) t)
 
-  fitting-low : (block : List ℕ) → Low textMost Short (fitting room block)
-  unfolding fitting
-  fitting-low block =
-      by (leb (length block) room)
-      (λ t. rw t (low-ok block (omega (arith, leb-true (length block) room t))))
-      (λ t. rw t (low-refused textMost Short outputShort 0 (omega arith)))
+block-low : (ps : List ℕ) (minute : ℕ) → Low textMost Short (writtenBlock ps minute)
+unfolding writtenBlock
+block-low ps minute =
+    by (isSet ps)
+    (λ t. rw t (dated-low ps t (dateOf minute)))
+    (λ t. rw t (low-refused textMost Short outOfRange 0 (omega arith)))
 
+fitting-low : (room : ℕ) (block : List ℕ) → Short block → Low textMost Short (fitting room block)
+unfolding fitting
+fitting-low room block k = either-way (Low textMost Short) (leb (length block) room) (low-ok block k) (low-refused textMost Short outputShort 0 (omega arith))
+
+module _ (room : ℕ) where
   rule-low : (ps : List ℕ) (minute : ℕ) → Low textMost Short (writeRule room ps minute)
-  unfolding writeRule writtenBlock
-  rule-low ps minute =
-      low-then (fitting room) (λ block _. fitting-low block)
-      (either-way (Low textMost Any) (isSet ps) (dated-block ps (dateOf minute)) (low-refused textMost Any outOfRange 0 (omega arith)))
+  unfolding writeRule
+  rule-low ps minute = low-then (fitting room) (λ block k. fitting-low room block k) (block-low ps minute)
 
   pub block-back : (ps : List ℕ) (minute : ℕ) → unpack plain (pack plain (lengthOf (writeRule room ps minute))) ≡ lengthOf (writeRule room ps minute)
   block-back ps minute = back plain plain (lengthOf (writeRule room ps minute)) (written-kept (writeRule room ps minute) (rule-low ps minute))
