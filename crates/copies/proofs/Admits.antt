@@ -7,11 +7,10 @@ use mathlib.Core.Bool.{Bool, true, false}
 use mathlib.Core.Option.{Option, none, some}
 use lib.ListN.{length, getD, List·getD-eq-default}
 use lib.Dec.{eqb}
-use borrow.Author.Tests.{eqb-true, eq-eqb}
+use borrow.Author.Tests.{eqb-true, eqb-false}
 use Rattle.laws.proofs.Tests.{by, by-order, apart}
 use Rattle.refusal.specs.Numbers.{wrongLength, notSound, noDraft, noSuchSegment, outOfRange, notTaken}
-use Rattle.refusal.specs.Answer as refusal
-use Rattle.refusal.specs.Answer.{ok, no, must, andThen, paperVerdict, paperRefusal}
+use Rattle.refusal.specs.Answer.{Answer, ok, no, refused, must, andThen, paperVerdict, paperRefusal}
 use Rattle.refusal.specs.declared.Refusal.{Refusal}
 use Rattle.refusal.specs.declared.Verdict.the-variants.{Accepted, Refused}
 use Rattle.codes.specs.Places.{capacity}
@@ -21,17 +20,20 @@ use Rattle.blocks.specs.Content.{holding, contentOf}
 use Rattle.blocks.proofs.Numbers.{Bytes}
 use Rattle.blocks.proofs.Contents as contents
 use Rattle.blocks.proofs.Contents.{content-said, content-used, sound-true}
-use Rattle.steps.specs.Book.{Copy, Draft, closed, working, at, put, draftAt}
-use Rattle.steps.specs.Calls.{Edit, Work, editing, Call, on, Answer, refused, edited, inRange, copyOf, ranged, work, acts, withDrafts, step}
-use Rattle.layout.specs.Layout.{copiesOf, bytesOf, bookOf}
+use Rattle.steps.specs.Book.{Copy, Draft, closed, working, at, draftAt}
+use Rattle.steps.specs.Calls.{Edit, Work, editing, Call, on, BookAnswer, inRange, copyOf, bookRule}
+use Rattle.steps.proofs.Order.{on-closed, on-far, on-gone}
+use Rattle.steps.proofs.Leaving.{edited}
+use Rattle.layout.specs.Layout.{copiesOf, bookOf}
 use Rattle.layout.specs.Tests.{isSound}
-use Rattle.layout.specs.Rule.{leaving, onBytes}
+use Rattle.layout.specs.Rule.{onBytes}
+use Rattle.layout.proofs.Rules.{rule-short, rule-unsound, bytes-refused, book-refused}
 use Rattle.layout.proofs.ForthIndex.{or-closed}
 use Rattle.copies.specs.Admission.{isOpen, exists, admission}
 use Rattle.copies.specs.Copies.{indexOf, blockIn, copyBlock, Admitted}
 use Rattle.copies.proofs.Finds.{open-far}
 use Rattle.copies.proofs.Copies.{Indexed, index-some, index-none}
-use Rattle.copies.proofs.Works.{Base, base-of, own-bytes, absent-answer, absent-bytes, copy-answer, copy-kept, copy-stored, copy-two, copy-fine, copy-block, still}
+use Rattle.copies.proofs.Works.{Base, base-of, absent-answer, absent-bytes, copy-answer, copy-kept, copy-stored, copy-two, copy-fine, copy-block}
 
 -- ---- an open draft, a segment that is there
 pub record Opened (ds : List Draft) (d : ℕ) : Type 0 where
@@ -133,12 +135,12 @@ works-at l d s k base a e =
         (works-copy l base s (c .0) (c .1) (o .k) (o .ks) (o .stale) (omega (arith, o .low, base .lies .four)) (o .here) n (index-some s (o .ks) n q)))
 
 -- ---- what a refused call says: the bytes stay
-pub record Same (l : List ℕ) (a : Answer) (c : Call) : Type 0 where
+pub record Same (l : List ℕ) (a : BookAnswer) (c : Call) : Type 0 where
   pub answer : a ≡ onBytes l c .0
   pub bytes : l ≡ onBytes l c .1
 
 -- 16
-pub absent-at : (l : List ℕ) (d s : ℕ) (e : Edit) → Base l → Admitted l d s → inRange (editing e) ≡ true → copyBlock l d s ≡ none → Same l (refused notTaken) (on d s (editing e))
+pub absent-at : (l : List ℕ) (d s : ℕ) (e : Edit) → Base l → Admitted l d s → inRange (editing e) ≡ true → copyBlock l d s ≡ none → Same l (refused notTaken 0) (on d s (editing e))
 unfolding copyBlock
 absent-at l d s e base a r q =
     let o = opened-at (bookOf l .drafts) d (a .opened) in
@@ -146,7 +148,7 @@ absent-at l d s e base a r q =
     let f : blockIn d (indexOf s (o .ks)) ≡ none = ap (λ (x : Draft). blockIn d (indexOf s (copiesOf x))) (sym (o .there)) ∙ q in
     let absent : copyOf s (o .ks) ≡ none = index-none s (o .ks) (behind (indexOf s (o .ks)) f) in
     let low : o .k < 4 = omega (arith, o .low, base .lies .four) in
-    subst (λ (i : ℕ). Same l (refused notTaken) (on i s (editing e))) (sym (o .is))
+    subst (λ (i : ℕ). Same l (refused notTaken 0) (on i s (editing e))) (sym (o .is))
     (record {
       answer = sym (absent-answer l base (o .k) (o .ks) (o .stale) low (o .here) s (c .0) (c .1) e r absent);
       bytes = sym (absent-bytes l base (o .k) (o .ks) (o .stale) low (o .here) s (c .0) (c .1) e r absent);
@@ -158,27 +160,27 @@ absent-at l d s e base a r q =
 
 -- ---- 1, 12, 13, 24, 15
 -- a refusal of the admission as one of a call
-as-answer : {n p m q : ℕ} → _≡_ {A = refusal.Answer Unit} (no n p) (no m q) → _≡_ {A = Answer} (no n p) (no m q)
+as-answer : {n p m q : ℕ} → _≡_ {A = Answer Unit} (no n p) (no m q) → _≡_ {A = BookAnswer} (no n p) (no m q)
 as-answer e = let a = ap number-of e in let b = ap place-of e in ap₂ no a b
   where
-    number-of : refusal.Answer Unit → ℕ
+    number-of : Answer Unit → ℕ
     number-of (ok x) = 0
     number-of (no n p) = n
 
-    place-of : refusal.Answer Unit → ℕ
+    place-of : Answer Unit → ℕ
     place-of (ok x) = 0
     place-of (no n p) = p
 
 -- what is asked of a sound book: its draft, the range, the segment
-abbrev asked : Draft → Bool → Option Content → refusal.Answer Unit
+abbrev asked : Draft → Bool → Option Content → Answer Unit
 asked x r h = andThen (must (isOpen x) noDraft 0) λ _. andThen (must r outOfRange 0) λ _. must (exists h) noSuchSegment 0
 
 module _ (l : List ℕ) (d s : ℕ) where
-  short-asks : (r : Bool) → eqb (length l) bookLength ≡ false → admission l d r s ≡ refusal.refused wrongLength 0
+  short-asks : (r : Bool) → eqb (length l) bookLength ≡ false → admission l d r s ≡ refused wrongLength 0
   unfolding admission andThen
   short-asks r t = rw t
 
-  bad-asks : (r : Bool) → eqb (length l) bookLength ≡ true → isSound l ≡ false → admission l d r s ≡ refusal.refused notSound 0
+  bad-asks : (r : Bool) → eqb (length l) bookLength ≡ true → isSound l ≡ false → admission l d r s ≡ refused notSound 0
   unfolding admission andThen
   bad-asks r t u = rw (t, u)
 
@@ -186,58 +188,27 @@ module _ (l : List ℕ) (d s : ℕ) where
   unfolding admission andThen
   sound-asks r t u = rw (t, u)
 
-  short-is : (c : Call) → eqb (length l) bookLength ≡ false → Same l (refused wrongLength) c
-  unfolding onBytes
-  short-is c t = record { answer = rw t; bytes = rw t }
+  stays-is : (c : Call) (a : BookAnswer) → onBytes l c ≡ (a, l) → Same l a c
+  stays-is c a e = record { answer = sym (ap (λ (x : BookAnswer × List ℕ). x .0) e); bytes = sym (ap (λ (x : BookAnswer × List ℕ). x .1) e) }
 
-  bad-is : (c : Call) → eqb (length l) bookLength ≡ true → isSound l ≡ false → Same l (refused notSound) c
-  unfolding onBytes
-  bad-is c t u = record { answer = rw (t, u); bytes = rw (t, u) }
+  short-is : (c : Call) → eqb (length l) bookLength ≡ false → Same l (refused wrongLength 0) c
+  short-is c t = stays-is c (refused wrongLength 0) (bytes-refused l c 1 0 (rule-short l c (eqb-false (length l) bookLength t)))
+
+  bad-is : (c : Call) → eqb (length l) bookLength ≡ true → isSound l ≡ false → Same l (refused notSound 0) c
+  bad-is c t u = stays-is c (refused notSound 0) (bytes-refused l c 12 0 (rule-unsound l c (eqb-true (length l) bookLength t) u))
 
   module _ (base : Base l) where
-    -- what a call on sound bytes says, by its draft
-    acts-is : (w : Work) (x : Draft) → draftAt (bookOf l .drafts) d ≡ x → onBytes l (on d s w) ≡ leaving (acts (bookOf l) d s w x)
-    unfolding onBytes step
-    acts-is w x e =
-        rw (eq-eqb (length l) bookLength (base .lies .long), base .sound) (ap (λ (x : Draft). leaving (acts (bookOf l) d s w x)) e)
-
-    shut-is : (w : Work) → draftAt (bookOf l .drafts) d ≡ closed → Same l (refused noDraft) (on d s w)
-    shut-is w e =
-        record {
-          answer = sym (ap (λ (x : Answer × List ℕ). x .0) (acts-is w closed e));
-          bytes = own-bytes l (bookOf l) (base .lies) (base .seal) ∙ sym (ap (λ (x : Answer × List ℕ). x .1) (acts-is w closed e));
-        }
-
-    -- a refusal that leaves the draft's copies
-    stays-is : (w : Work) (a : Answer) → isOpen (draftAt (bookOf l .drafts) d) ≡ true
-        → ((ks : List Copy) → work (bookOf l .issue) s (at (bookOf l .segments) s) w ks ≡ (a, ks)) → Same l a (on d s w)
-    stays-is w a e q =
-        let o = opened-at (bookOf l .drafts) d e in
-        let f = acts-is w (working (o .ks) (o .stale)) (o .there) in
-        record {
-          answer = sym (ap (λ (x : Answer × List ℕ). x .0) f ∙ ap (λ (x : Answer × List Copy). x .0) (q (o .ks)));
-          bytes =
-              sym (ap (λ (x : Answer × List ℕ). x .1) f
-              ∙ ap (λ (x : Answer × List Copy). bytesOf (withDrafts (bookOf l) (put (bookOf l .drafts) d (working (x .1) (o .stale))))) (q (o .ks))
-              ∙ ap (λ (i : ℕ). bytesOf (withDrafts (bookOf l) (put (bookOf l .drafts) i (working (o .ks) (o .stale))))) (o .is)
-              ∙ still l base (o .k) (working (o .ks) (o .stale)) (o .here));
-        }
-
-    far-is : (w : Work) → inRange w ≡ false → (ks : List Copy) → work (bookOf l .issue) s (at (bookOf l .segments) s) w ks ≡ (refused outOfRange, ks)
-    unfolding work
-    far-is w r ks = ap (λ (t : Bool). ranged (bookOf l .issue) s (at (bookOf l .segments) s) w ks t) r
-
-    none-is : (w : Work) → inRange w ≡ true → at (bookOf l .segments) s ≡ none → (ks : List Copy) → work (bookOf l .issue) s (at (bookOf l .segments) s) w ks ≡ (refused noSuchSegment, ks)
-    unfolding work
-    none-is w r e ks = ap₂ (λ (h : Option Content) (t : Bool). ranged (bookOf l .issue) s h w ks t) e r
+    -- what a refused call on sound bytes says
+    says-is : (w : Work) (n p : ℕ) → bookRule (bookOf l) (on d s w) ≡ no n p → Same l (no n p) (on d s w)
+    says-is w n p e = stays-is (on d s w) (no n p) (book-refused l (on d s w) (base .lies .long) (base .sound) n p e)
 
     -- the draft, the range and the segment in their order
     asked-is : (w : Work) (n p : ℕ) (x : Draft) (r : Bool) (h : Option Content) → draftAt (bookOf l .drafts) d ≡ x → inRange w ≡ r → at (bookOf l .segments) s ≡ h
         → asked x r h ≡ no n p → Same l (no n p) (on d s w)
     unfolding andThen
-    asked-is w n p closed r h ex er eh e = subst (λ (a : Answer). Same l a (on d s w)) (as-answer e) (shut-is w ex)
-    asked-is w n p (working ks stale) false h ex er eh e = subst (λ (a : Answer). Same l a (on d s w)) (as-answer e) (stays-is w (refused outOfRange) (ap isOpen ex) (far-is w er))
-    asked-is w n p (working ks stale) true none ex er eh e = subst (λ (a : Answer). Same l a (on d s w)) (as-answer e) (stays-is w (refused noSuchSegment) (ap isOpen ex) (none-is w er eh))
+    asked-is w n p closed r h ex er eh e = subst (λ (a : BookAnswer). Same l a (on d s w)) (as-answer e) (says-is w 13 0 (on-closed (bookOf l) d s w ex))
+    asked-is w n p (working ks stale) false h ex er eh e = subst (λ (a : BookAnswer). Same l a (on d s w)) (as-answer e) (says-is w 24 0 (on-far (bookOf l) d ks stale ex s w er))
+    asked-is w n p (working ks stale) true none ex er eh e = subst (λ (a : BookAnswer). Same l a (on d s w)) (as-answer e) (says-is w 15 0 (on-gone (bookOf l) d ks stale ex s w er eh))
     asked-is w n p (working ks stale) true (some c) ex er eh e = apart cc
 
   -- what the admission refuses
@@ -247,8 +218,8 @@ module _ (l : List ℕ) (d s : ℕ) where
       (λ t. by (isSound l)
       (λ u. asked-is (base-of l y u) w (r .number) (r .place) (draftAt (bookOf l .drafts) d) (inRange w) (at (bookOf l .segments) s) refl refl refl
       (sym (e ∙ sound-asks (inRange w) t u)))
-      (λ u. subst (λ (a : Answer). Same l a (on d s w)) (as-answer (sym (e ∙ bad-asks (inRange w) t u))) (bad-is (on d s w) t u)))
-      (λ t. subst (λ (a : Answer). Same l a (on d s w)) (as-answer (sym (e ∙ short-asks (inRange w) t))) (short-is (on d s w) t))
+      (λ u. subst (λ (a : BookAnswer). Same l a (on d s w)) (as-answer (sym (e ∙ bad-asks (inRange w) t u))) (bad-is (on d s w) t u)))
+      (λ t. subst (λ (a : BookAnswer). Same l a (on d s w)) (as-answer (sym (e ∙ short-asks (inRange w) t))) (short-is (on d s w) t))
 
   -- what it accepts
   accepted-of : (x : Draft) (r : Bool) (h : Option Content) → asked x r h ≡ ok tt → (isOpen x ≡ true) × (r ≡ true) × (exists h ≡ true)

@@ -21,6 +21,7 @@ use Rattle.steps.specs.Calls.{copyOf, recopy, has, withDrafts}
 use Rattle.layout.specs.Layout.{segmentOf, bit, draftBytes, copiesOf, heldOf, heldIn, copy, partOf, indexBytes, front, back}
 use Rattle.layout.specs.Sound.{Distinct, first-once}
 use Rattle.layout.specs.Lies.{Lies}
+use Rattle.layout.proofs.Recopied.{recopy-absent}
 use Rattle.layout.proofs.Stands.{part-copy}
 use Rattle.layout.proofs.ForthIndex.{or-closed}
 use Rattle.moves.proofs.Parts.{block-of-copy, held-put, held-new}
@@ -29,14 +30,6 @@ use Rattle.moves.proofs.StepsLies.{partsIn, lies-stands, stands-lies}
 use Rattle.copies.specs.Copies.{later, indexOf}
 
 -- ---- the copy of a segment
--- another content for a segment that has no copy
-recopy-absent : (s : ℕ) (c : Content) (ks : List Copy) → has s ks ≡ false → recopy s c ks ≡ ks
-unfolding recopy has
-recopy-absent s c [] e = refl
-recopy-absent s c (k ∷ ks) e =
-    by (eqb s (k .segment)) (λ t. let f : true ≡ false = rw t at e in apart cc)
-    (λ t. let f : has s ks ≡ false = rw t at e in rw t (ap (λ (r : List Copy). k ∷ r) (recopy-absent s c ks f)))
-
 pub record Indexed (s : ℕ) (ks : List Copy) (n : ℕ) : Type 0 where
   pub held : Content
   pub here : getElem? ks n ≡ some (record { segment = s; held = held })
@@ -100,18 +93,6 @@ index-none s (k ∷ ks) e =
     behind : (o : Option ℕ) → later o ≡ none → o ≡ none
     behind none f = refl
     behind (some m) f = apart cc
-
--- the same content again
-pub recopy-same : (s : ℕ) (c : Content) (ks : List Copy) → copyOf s ks ≡ some c → Distinct ks → recopy s c ks ≡ ks
-unfolding copyOf recopy
-recopy-same s c [] e x = refl
-recopy-same s c (k ∷ ks) e (first-once absent x) =
-    by (eqb s (k .segment))
-    (λ t. let f : some (k .held) ≡ some c = rw t at e in let g : k .held ≡ c = cc in
-    let m : s ≡ k .segment = eqb-true s (k .segment) t in
-    rw t (ap₂ (λ (h : Content) (r : List Copy). record { segment = k .segment; held = h } ∷ r) (sym g)
-    (recopy-absent s c ks (ap (λ (n : ℕ). has n ks) m ∙ absent))))
-    (λ t. let f : copyOf s ks ≡ some c = rw t at e in rw t (ap (λ (r : List Copy). k ∷ r) (recopy-same s c ks f x)))
 
 -- ---- block 0 has only the segments' numbers
 segment-set : (s : ℕ) (c h : Content) (ks : List Copy) (n m : ℕ) → getElem? ks n ≡ some (record { segment = s; held = h })

@@ -18,7 +18,8 @@ use Rattle.blocks.specs.Content.{contentOf}
 use Rattle.blocks.specs.Held.{heldContent, Fits}
 use Rattle.blocks.specs.declared.Held.{Held}
 use Rattle.blocks.proofs.Numbers.{Bytes}
-use Rattle.steps.specs.Calls.{Edit, Work, editing, on, edited, inRange}
+use Rattle.steps.specs.Calls.{Edit, Work, editing, on, inRange}
+use Rattle.steps.proofs.Leaving.{edited}
 use Rattle.layout.specs.Rule.{onBytes, paperReply, Does}
 use Rattle.layout.specs.declared.Reply.{Reply}
 use Rattle.layout.specs.declared.Reply.the-variants as reply

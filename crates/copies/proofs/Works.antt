@@ -1,31 +1,35 @@
 -- Work on a draft's copy: what the call on the book's bytes answers and leaves. Assumes nothing.
 use Prim.Native.Nat.{ℕ, suc, _+_, _*_, _-_, _≤_, _<_}
 use native.Mathlib.Omega.{arith}
-use mathlib.Core.Path.{_≡_, sym, ap, ap₂, subst, _∙_}
+use mathlib.Core.Path.{_≡_, refl, sym, ap, subst, _∙_}
 use mathlib.Core.List.{List}
 use mathlib.Core.Bool.{Bool, true}
-use mathlib.Core.Option.{Option, none, some}
+use mathlib.Core.Option.{none, some}
 use lib.ListN.{length, getD, getElem?, set, take-append-drop}
 use lib.Seq.{set-getD}
-use borrow.Author.Tests.{eq-eqb}
 use Rattle.laws.proofs.Tests.{apart}
 use Rattle.laws.proofs.Lists.{all-get, all-found}
 use Rattle.laws.proofs.Lookups.{get-low}
 use Rattle.refusal.specs.Numbers.{notTaken}
+use Rattle.refusal.specs.Answer.{Answer, ok, no, refused}
 use Rattle.codes.specs.Places.{capacity}
 use Rattle.codes.specs.Block.{Content}
-use Rattle.blocks.specs.Block.{bookLength, sealed, blockOf, putBlock}
+use Rattle.blocks.specs.Block.{sealed, blockOf, putBlock}
 use Rattle.blocks.specs.Content.{holding, isContent}
 use Rattle.blocks.proofs.Blocks.{put-other-block}
 use Rattle.blocks.proofs.Numbers.{Bytes}
 use Rattle.blocks.proofs.Contents.{used-length}
-use Rattle.steps.specs.Book.{Copy, Draft, closed, working, Book, at}
-use Rattle.steps.specs.Calls.{Edit, Work, editing, Call, on, Answer, refused, edited, inRange, copyOf, recopy, works, ranged, work, acts, withDrafts, step}
+use Rattle.steps.specs.Book.{Copy, Draft, closed, working, Book, at, draftAt}
+use Rattle.steps.specs.Calls.{Edit, editing, on, Value, BookAnswer, settle, editRule, inRange, copyOf, recopy, withDrafts}
+use Rattle.steps.proofs.Order.{on-absent, on-refused, on-edited}
+use Rattle.steps.proofs.Leaving.{edited}
 use Rattle.layout.specs.Layout.{heldOf, heldIn, copiesOf, partOf, blockBytes, bytesOf, bookOf}
 use Rattle.layout.specs.Sound.{FineTaken, FineDraft, closed-fine, working-fine, Sound}
 use Rattle.layout.specs.Tests.{isSound}
-use Rattle.layout.specs.Rule.{leaving, onBytes}
+use Rattle.layout.specs.Rule.{onBytes}
 use Rattle.layout.specs.Lies.{Lies}
+use Rattle.layout.proofs.Recopied.{recopy-same}
+use Rattle.layout.proofs.Rules.{book-refused, book-left}
 use Rattle.layout.proofs.ForthBlocks.{lies-sealed}
 use Rattle.layout.proofs.Stands.{part-copy}
 use Rattle.layout.proofs.Parts.{sound-parts}
@@ -33,7 +37,7 @@ use Rattle.layout.proofs.IndexBack.{index-sealed}
 use Rattle.layout.proofs.Back.{sound-lies}
 use Rattle.layout.proofs.SoundBack.{sound-book}
 use Rattle.layout.proofs.ForthIndex.{or-closed}
-use Rattle.copies.proofs.Copies.{Indexed, recopy-same, changed-lies}
+use Rattle.copies.proofs.Copies.{Indexed, changed-lies}
 
 -- ---- what is known of sound bytes
 pub record Base (l : List ℕ) : Type 0 where
@@ -76,72 +80,59 @@ module _ (l : List ℕ) (base : Base l) (k : ℕ) (ks : List Copy) (stale : Bool
   taken : FineTaken (b .issue) (length (b .segments)) ks stale
   taken = fine-taken (all-get closed k (base .fine .drafts) (omega (arith, base .lies .four))) opened
 
-  step-is : (w : Work) → step b (on (suc k) s w) ≡ acts b (suc k) s w (working ks stale)
-  unfolding step
-  step-is w = ap (acts b (suc k) s w) (or-closed (b .drafts) k ∙ opened)
-
-  bytes-is : (c : Call) → onBytes l c ≡ leaving (step b c)
-  unfolding onBytes
-  bytes-is c = rw (eq-eqb (length l) bookLength (base .lies .long), base .sound)
+  pub there-at : draftAt (b .drafts) (suc k) ≡ working ks stale
+  there-at = or-closed (b .drafts) k ∙ opened
 
   same-bytes : bytesOf (withDrafts b (set (b .drafts) k (working ks stale))) ≡ l
   same-bytes = still l base k (working ks stale) opened
 
-  module _ (e : Edit) where
-    abbrev call : Call
-    call = on (suc k) s (editing e)
+  module _ (e : Edit) (r : inRange (editing e) ≡ true) where
+    -- 16
+    module _ (absent : copyOf s ks ≡ none) where
+      nothing : onBytes l (on (suc k) s (editing e)) ≡ (refused notTaken 0, l)
+      nothing = book-refused l (on (suc k) s (editing e)) (base .lies .long) (base .sound) 16 0 (on-absent b (suc k) ks stale there-at s c₀ there e r absent)
 
-    acted : onBytes l call ≡ leaving (acts b (suc k) s (editing e) (working ks stale))
-    acted = bytes-is call ∙ ap leaving (step-is (editing e))
+      pub absent-answer : onBytes l (on (suc k) s (editing e)) .0 ≡ refused notTaken 0
+      absent-answer = ap (λ (x : BookAnswer × List ℕ). x .0) nothing
 
-    module _ (r : inRange (editing e) ≡ true) where
-      work-is : work (b .issue) s (at (b .segments) s) (editing e) ks ≡ works (b .issue) s c₀ (editing e) ks (copyOf s ks)
-      unfolding work
-      work-is = ap₂ (λ (h : Option Content) (t : Bool). ranged (b .issue) s h (editing e) ks t) there r
+      pub absent-bytes : onBytes l (on (suc k) s (editing e)) .1 ≡ l
+      absent-bytes = ap (λ (x : BookAnswer × List ℕ). x .1) nothing
 
-      -- 16
-      module _ (absent : copyOf s ks ≡ none) where
-        nothing : work (b .issue) s (at (b .segments) s) (editing e) ks ≡ (refused notTaken, ks)
-        nothing = work-is ∙ ap (works (b .issue) s c₀ (editing e) ks) absent
+    -- a copy
+    module _ (h : Content) (copied : copyOf s ks ≡ some h) where
+      found : (q : Answer (Value × Content)) → editRule (b .issue) e h ≡ q
+          → onBytes l (on (suc k) s (editing e)) ≡ (settle h q .0, bytesOf (withDrafts b (set (b .drafts) k (working (recopy s (settle h q .1) ks) stale))))
+      found (ok z) q =
+          book-left l (on (suc k) s (editing e)) (base .lies .long) (base .sound) (z .0) (withDrafts b (set (b .drafts) k (working (recopy s (z .1) ks) stale)))
+          (on-edited b (suc k) ks stale there-at s c₀ there e r h copied (z .0) (z .1) q)
+      found (no n p) q =
+          book-refused l (on (suc k) s (editing e)) (base .lies .long) (base .sound) n p (on-refused b (suc k) ks stale there-at s c₀ there e r h copied n p q)
+          ∙ ap (λ (m : List ℕ). (no n p, m))
+          (sym (ap (λ (js : List Copy). bytesOf (withDrafts b (set (b .drafts) k (working js stale)))) (recopy-same s h ks copied (taken .distinct)) ∙ same-bytes))
 
-        pub absent-answer : onBytes l (on (suc k) s (editing e)) .0 ≡ refused notTaken
-        absent-answer = ap (λ (x : Answer × List ℕ). x .0) acted ∙ ap (λ (x : Answer × List Copy). x .0) nothing
+      pub copy-answer : onBytes l (on (suc k) s (editing e)) .0 ≡ edited (b .issue) e h .0
+      copy-answer = ap (λ (x : BookAnswer × List ℕ). x .0) (found (editRule (b .issue) e h) refl)
 
-        pub absent-bytes : onBytes l (on (suc k) s (editing e)) .1 ≡ l
-        absent-bytes =
-            ap (λ (x : Answer × List ℕ). x .1) acted
-            ∙ ap (λ (x : Answer × List Copy). bytesOf (withDrafts b (set (b .drafts) k (working (x .1) stale)))) nothing ∙ same-bytes
+      copy-bytes : onBytes l (on (suc k) s (editing e)) .1
+          ≡ bytesOf (withDrafts b (set (b .drafts) k (working (recopy s (edited (b .issue) e h .1) ks) stale)))
+      copy-bytes = ap (λ (x : BookAnswer × List ℕ). x .1) (found (editRule (b .issue) e h) refl)
 
-      -- a copy
-      module _ (h : Content) (copied : copyOf s ks ≡ some h) where
-        found : work (b .issue) s (at (b .segments) s) (editing e) ks ≡ (edited (b .issue) e h .0, recopy s (edited (b .issue) e h .1) ks)
-        found = work-is ∙ ap (works (b .issue) s c₀ (editing e) ks) copied
+      pub copy-kept : edited (b .issue) e h .1 ≡ h → onBytes l (on (suc k) s (editing e)) .1 ≡ l
+      copy-kept same =
+          copy-bytes
+          ∙ ap (λ (ks : List Copy). bytesOf (withDrafts b (set (b .drafts) k (working ks stale))))
+          (ap (λ (c : Content). recopy s c ks) same ∙ recopy-same s h ks copied (taken .distinct))
+          ∙ same-bytes
 
-        pub copy-answer : onBytes l (on (suc k) s (editing e)) .0 ≡ edited (b .issue) e h .0
-        copy-answer = ap (λ (x : Answer × List ℕ). x .0) acted ∙ ap (λ (x : Answer × List Copy). x .0) found
-
-        copy-bytes : onBytes l (on (suc k) s (editing e)) .1
-            ≡ bytesOf (withDrafts b (set (b .drafts) k (working (recopy s (edited (b .issue) e h .1) ks) stale)))
-        copy-bytes =
-            ap (λ (x : Answer × List ℕ). x .1) acted
-            ∙ ap (λ (x : Answer × List Copy). bytesOf (withDrafts b (set (b .drafts) k (working (x .1) stale)))) found
-
-        pub copy-kept : edited (b .issue) e h .1 ≡ h → onBytes l (on (suc k) s (editing e)) .1 ≡ l
-        copy-kept same =
-            copy-bytes
-            ∙ ap (λ (ks : List Copy). bytesOf (withDrafts b (set (b .drafts) k (working ks stale))))
-            (ap (λ (c : Content). recopy s c ks) same ∙ recopy-same s h ks copied (taken .distinct))
-            ∙ same-bytes
-
-        pub copy-stored : (n : ℕ) → n < 2 → Indexed s ks n → length (edited (b .issue) e h .1 .places) ≤ capacity
-            → onBytes l (on (suc k) s (editing e)) .1 ≡ putBlock (9 + 2 * k + n) (holding (some (edited (b .issue) e h .1))) l
-        copy-stored n two v few =
-            let c : Content = edited (b .issue) e h .1 in
-            let new = changed-lies l b (base .lies) k ks stale low opened s n two v (taken .distinct) c few in
-            let first : blockOf 0 (putBlock (9 + 2 * k + n) (holding (some c)) l) ≡ blockOf 0 l =
-            put-other-block 49 (9 + 2 * k + n) l (holding (some c)) (omega arith) (base .lies .long) (used-length c few) 0 (omega arith) (λ z. omega (arith, z)) in
-            copy-bytes ∙ sym (own-bytes (putBlock (9 + 2 * k + n) (holding (some c)) l)
-            (withDrafts b (set (b .drafts) k (working (recopy s c ks) stale))) new (ap sealed first ∙ base .seal ∙ sym first))
+      pub copy-stored : (n : ℕ) → n < 2 → Indexed s ks n → length (edited (b .issue) e h .1 .places) ≤ capacity
+          → onBytes l (on (suc k) s (editing e)) .1 ≡ putBlock (9 + 2 * k + n) (holding (some (edited (b .issue) e h .1))) l
+      copy-stored n two v few =
+          let c : Content = edited (b .issue) e h .1 in
+          let new = changed-lies l b (base .lies) k ks stale low opened s n two v (taken .distinct) c few in
+          let first : blockOf 0 (putBlock (9 + 2 * k + n) (holding (some c)) l) ≡ blockOf 0 l =
+          put-other-block 49 (9 + 2 * k + n) l (holding (some c)) (omega arith) (base .lies .long) (used-length c few) 0 (omega arith) (λ z. omega (arith, z)) in
+          copy-bytes ∙ sym (own-bytes (putBlock (9 + 2 * k + n) (holding (some c)) l)
+          (withDrafts b (set (b .drafts) k (working (recopy s c ks) stale))) new (ap sealed first ∙ base .seal ∙ sym first))
 
   -- the copy's block
   module _ (n : ℕ) (v : Indexed s ks n) where

@@ -10,20 +10,21 @@ use lib.ListN.{length, getD, getElem?}
 use borrow.Author.Tests.{ne-eqb, not-true, not-false}
 use Rattle.laws.proofs.Tests.{apart}
 use Rattle.refusal.specs.Numbers.{wrongLength, notSound, allOpen}
-use Rattle.refusal.specs.Answer.{ok, refusalFor}
+use Rattle.refusal.specs.Answer.{refusalFor}
 use Rattle.codes.specs.Places.{upward}
 use Rattle.blocks.specs.Block.{bookLength}
 use Rattle.blocks.proofs.Numbers.{Bytes}
 use Rattle.steps.specs.Book.{Draft, closed, working, Book, orClosed, put, draftAt}
-use Rattle.steps.specs.Calls.{Call, opening, draft, refused, lowest, opens, withDrafts, step}
+use Rattle.steps.specs.Calls.{Call, opening, draft, lowest, withDrafts}
+use Rattle.steps.proofs.Order as order
 use Rattle.layout.specs.Layout.{draftOf, bytesOf, bookOf}
 use Rattle.layout.specs.Tests.{isSound}
-use Rattle.layout.specs.Rule.{Does}
+use Rattle.layout.specs.Rule.{paperReply, Does}
 use Rattle.layout.specs.Lies.{Lies}
 use Rattle.layout.specs.declared.Reply.{Reply}
 use Rattle.layout.specs.declared.Reply.the-variants as reply
 use Rattle.layout.proofs.Back.{sound-lies}
-use Rattle.layout.proofs.Rules.{does-step, does-nothing, does-short, does-unsound}
+use Rattle.layout.proofs.Rules.{does-step, does-refused, does-short, does-unsound}
 use Rattle.layout.proofs.Said.{drafts-length, draft-shut}
 use Rattle.drafts.specs.Opening.{paperLowest}
 use Rattle.drafts.specs.declared.Lowest.{Lowest}
@@ -104,11 +105,9 @@ module _ (l : List ℕ) (long : length l ≡ bookLength) (sound : Bool) (is-soun
 
   -- 14
   pub open-none : (y : Bytes l) (r : Reply) → w ≡ code.Nothing → r ≡ reply.Refused (refusalFor allOpen 0) → Does l l opening r
-  unfolding step
   open-none y r e q =
       let none-closed : lowest 1 (bookOf l .drafts) ≡ none = sym is-lowest ∙ ap paperLowest e in
-      subst (Does l l opening) (sym q)
-      (does-nothing l opening (reply.Refused (refusalFor allOpen 0)) y long t (refused allOpen) (ap (opens (bookOf l)) none-closed) refl)
+      does-refused l opening r long t 14 0 (order.open-none (bookOf l) none-closed) (ap paperReply q)
 
   -- a draft is closed
   module _ (d : ℕ) (is : w ≡ code.Draft d) where
@@ -129,9 +128,8 @@ module _ (l : List ℕ) (long : length l ≡ bookLength) (sound : Bool) (is-soun
     pub open-does : (y : Bytes l) (m : List ℕ)
         → ((b : Book) → Lies l b → draftAt (b .drafts) d ≡ closed → Lies m (withDrafts b (put (b .drafts) d (working [] false))))
         → (z : List ℕ) → ((b : Book) → Lies m b → z ≡ bytesOf b) → Does l z opening (reply.Draft d)
-    unfolding step
     open-does y m opened z sealed =
         let one-closed : lowest 1 (bookOf l .drafts) ≡ some d = sym is-lowest ∙ ap paperLowest is in
         let after : Book = withDrafts (bookOf l) (put (bookOf l .drafts) d (working [] false)) in
-        does-step l z opening (reply.Draft d) long t (ok (draft d), after) (ap (opens (bookOf l)) one-closed) refl
+        does-step l z opening (reply.Draft d) long t (draft d) after (order.open-lowest (bookOf l) d one-closed) refl
         (sealed after (opened (bookOf l) (sound-lies l y t) open-shut))

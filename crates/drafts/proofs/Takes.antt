@@ -3,20 +3,22 @@ use Prim.Native.Nat.{ℕ, zero, suc, _+_, _*_, _≤_, _<_}
 use native.Mathlib.Omega.{arith}
 use mathlib.Core.Path.{_≡_, refl, sym, ap, ap₂, subst, _∙_}
 use mathlib.Core.List.{List, [], _∷_, _++_}
-use mathlib.Core.Bool.{Bool, true}
+use mathlib.Core.Bool.{Bool, true, false}
 use mathlib.Core.Option.{Option, none, some}
 use lib.ListN.{length, getD}
-use borrow.Author.Tests.{le-leb, lt-leb}
+use borrow.Author.Tests.{le-ltb, lt-ltb}
 use Rattle.laws.proofs.Tests.{by-order, impossible, apart}
 use Rattle.refusal.specs.Numbers.{takenAlready, twoTaken}
-use Rattle.refusal.specs.Answer.{ok, refusalFor, paperVerdict}
+use Rattle.refusal.specs.Answer.{no, refusalFor, paperVerdict}
 use Rattle.refusal.specs.declared.Verdict.{Verdict}
 use Rattle.refusal.specs.declared.Verdict.the-variants.{Accepted}
 use Rattle.codes.specs.Block.{Content}
 use Rattle.blocks.specs.Block.{bookLength}
 use Rattle.blocks.proofs.Numbers.{Bytes}
 use Rattle.steps.specs.Book.{Copy, Draft, working, Book, at, put, draftAt}
-use Rattle.steps.specs.Calls.{on, taking, done, Answer, refused, copyOf, takes, works, ranged, work, acts, withDrafts, step}
+use Rattle.steps.specs.Calls.{on, taking, done, has, withDrafts, bookRule}
+use Rattle.steps.proofs.Order.{on-again, on-full, on-taken}
+use Rattle.steps.proofs.Agree.{copy-none}
 use Rattle.layout.specs.Layout.{copiesOf, copiesAt, bytesOf, bookOf}
 use Rattle.layout.specs.Tests.{isSound}
 use Rattle.layout.specs.Rule.{paperReply, Does}
@@ -24,7 +26,7 @@ use Rattle.layout.specs.Lies.{Lies}
 use Rattle.layout.specs.declared.Reply.{Reply}
 use Rattle.layout.specs.declared.Reply.the-variants as reply
 use Rattle.layout.proofs.Parts.{sound-parts}
-use Rattle.layout.proofs.Rules.{does-step}
+use Rattle.layout.proofs.Rules.{does-step, does-refused}
 use Rattle.layout.proofs.Said.{draft-of, segment-past, copies-none, copies-one, copies-two}
 use Rattle.layout.proofs.Shown.{draft-copies}
 use Rattle.copies.specs.Admission.{exists, admission}
@@ -33,7 +35,7 @@ use Rattle.copies.specs.declared.Found.{Found}
 use Rattle.copies.specs.declared.Found.the-variants as found
 use Rattle.copies.proofs.Copies.{index-some, index-none}
 use Rattle.copies.proofs.Finds.{open-zero, there-zero}
-use Rattle.copies.proofs.Works.{Base, base-of, still}
+use Rattle.copies.proofs.Works.{Base, base-of}
 use Rattle.copies.proofs.Admits.{Opened, opened-at, some-of, admitted-at}
 
 -- ---- how many segments a draft has taken
@@ -102,47 +104,23 @@ module _ (l : List ℕ) (d s : ℕ) (v : Verdict) (is : v ≡ Accepted) (says : 
 
 -- ---- what a take does, by the draft's copies
 module _ (l : List ℕ) (base : Base l) (long : length l ≡ bookLength) (d s : ℕ) (o : Opened (bookOf l .drafts) d) (c : Content) (there : at (bookOf l .segments) s ≡ some c) where
-  step-is : step (bookOf l) (on d s taking) ≡ acts (bookOf l) d s taking (working (o .ks) (o .stale))
-  unfolding step
-  step-is = ap (acts (bookOf l) d s taking) (o .there)
+  stays : (n p : ℕ) (r : Reply) → bookRule (bookOf l) (on d s taking) ≡ no n p → paperReply r ≡ no n p → Does l l (on d s taking) r
+  stays n p r e q = does-refused l (on d s taking) r long (base .sound) n p e q
 
-  work-is : (h : Option Content) → copyOf s (o .ks) ≡ h → work (bookOf l .issue) s (at (bookOf l .segments) s) taking (o .ks) ≡ works (bookOf l .issue) s c taking (o .ks) h
-  unfolding work
-  work-is h e =
-      ap (λ (x : Option Content). ranged (bookOf l .issue) s x taking (o .ks) true) there
-      ∙ ap (works (bookOf l .issue) s c taking (o .ks)) e
+  copy-there : has s (o .ks) ≡ true → Does l l (on d s taking) (reply.Refused (refusalFor takenAlready 0))
+  copy-there e = stays 17 0 (reply.Refused (refusalFor takenAlready 0)) (on-again (bookOf l) d (o .ks) (o .stale) (o .there) s c there e) refl
 
-  acts-is : (a : Answer) (ks : List Copy) → work (bookOf l .issue) s (at (bookOf l .segments) s) taking (o .ks) ≡ (a, ks)
-      → step (bookOf l) (on d s taking) ≡ (a, withDrafts (bookOf l) (put (bookOf l .drafts) d (working ks (o .stale))))
-  acts-is a ks e =
-      step-is
-      ∙ ap (λ (x : Answer × List Copy). (x .0, withDrafts (bookOf l) (put (bookOf l .drafts) d (working (x .1) (o .stale))))) e
-
-  -- the bytes of the book whose draft stays
-  same-bytes : l ≡ bytesOf (withDrafts (bookOf l) (put (bookOf l .drafts) d (working (o .ks) (o .stale))))
-  same-bytes =
-      sym (ap (λ (i : ℕ). bytesOf (withDrafts (bookOf l) (put (bookOf l .drafts) i (working (o .ks) (o .stale))))) (o .is)
-      ∙ still l base (o .k) (working (o .ks) (o .stale)) (o .here))
-
-  stays : (a : Answer) (r : Reply) → work (bookOf l .issue) s (at (bookOf l .segments) s) taking (o .ks) ≡ (a, o .ks) → paperReply r ≡ a → Does l l (on d s taking) r
-  stays a r e p =
-      does-step l l (on d s taking) r long (base .sound) (a, withDrafts (bookOf l) (put (bookOf l .drafts) d (working (o .ks) (o .stale))))
-      (acts-is a (o .ks) e) p same-bytes
-
-  copy-there : (h : Content) → copyOf s (o .ks) ≡ some h → Does l l (on d s taking) (reply.Refused (refusalFor takenAlready 0))
-  copy-there h e = stays (refused takenAlready) (reply.Refused (refusalFor takenAlready 0)) (work-is (some h) e) refl
-
-  two-there : copyOf s (o .ks) ≡ none → 2 ≤ length (o .ks) → Does l l (on d s taking) (reply.Refused (refusalFor twoTaken 0))
+  two-there : has s (o .ks) ≡ false → 2 ≤ length (o .ks) → Does l l (on d s taking) (reply.Refused (refusalFor twoTaken 0))
   two-there e h =
-      stays (refused twoTaken) (reply.Refused (refusalFor twoTaken 0)) (work-is none e ∙ ap (takes s c (o .ks)) (le-leb 2 (length (o .ks)) h)) refl
+      stays 18 0 (reply.Refused (refusalFor twoTaken 0)) (on-full (bookOf l) d (o .ks) (o .stale) (o .there) s c there e (le-ltb (length (o .ks)) 2 h)) refl
 
-  copied : copyOf s (o .ks) ≡ none → length (o .ks) < 2 → (z : List ℕ)
+  copied : has s (o .ks) ≡ false → length (o .ks) < 2 → (z : List ℕ)
       → z ≡ bytesOf (withDrafts (bookOf l) (put (bookOf l .drafts) d (working (o .ks ++ (record { segment = s; held = c } ∷ [])) (o .stale))))
       → Does l z (on d s taking) reply.Done
   copied e h z q =
       let new : List Copy = o .ks ++ (record { segment = s; held = c } ∷ []) in
-      does-step l z (on d s taking) reply.Done long (base .sound) (ok done, withDrafts (bookOf l) (put (bookOf l .drafts) d (working new (o .stale))))
-      (acts-is (ok done) new (work-is none e ∙ ap (takes s c (o .ks)) (lt-leb 2 (length (o .ks)) h))) refl q
+      does-step l z (on d s taking) reply.Done long (base .sound) done (withDrafts (bookOf l) (put (bookOf l .drafts) d (working new (o .stale))))
+      (on-taken (bookOf l) d (o .ks) (o .stale) (o .there) s c there e (lt-ltb (length (o .ks)) 2 h)) refl q
 
 -- ---- the ways out
 -- the copy that was sought
@@ -177,11 +155,11 @@ module _ (l : List ℕ) (y : Bytes l) (d s : ℕ) (v : Verdict) (is : v ≡ Acce
   take-again k r q e =
       let b = block-some d k (indexOf s (o .ks)) (sym sought ∙ ap paperFound q) in
       let i = index-some s (o .ks) (b .0) (b .1) in
-      subst (Does l l (on d s taking)) (sym e) (copy-there l base (a .long) d s o (c .0) (c .1) (i .held) (i .copied))
+      subst (Does l l (on d s taking)) (sym e) (copy-there l base (a .long) d s o (c .0) (c .1) (i .named))
 
   module _ (q : f ≡ found.NotTaken) (n : ℕ) (is-n : n ≡ length (copiesOf (draftAt (bookOf l .drafts) d))) where
-    absent : copyOf s (o .ks) ≡ none
-    absent = index-none s (o .ks) (block-none d (indexOf s (o .ks)) (sym sought ∙ ap paperFound q))
+    absent : has s (o .ks) ≡ false
+    absent = copy-none s (o .ks) (index-none s (o .ks) (block-none d (indexOf s (o .ks)) (sym sought ∙ ap paperFound q)))
 
     count : n ≡ length (o .ks)
     count = is-n ∙ ap (λ (x : Draft). length (copiesOf x)) (o .there)

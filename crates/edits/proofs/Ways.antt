@@ -2,14 +2,14 @@
 use Prim.Native.Nat.{ℕ, _-_, _≤_, _<_}
 use native.Mathlib.Nat.{sub-zero}
 use native.Mathlib.Omega.{arith}
-use mathlib.Core.Path.{_≡_, sym, ap, ap₂, subst, _∙_}
+use mathlib.Core.Path.{_≡_, sym, ap, subst, _∙_}
 use mathlib.Core.List.{List}
 use mathlib.Core.Bool.{Bool, true, false, not}
-use mathlib.Core.Option.{none, some}
+use mathlib.Core.Option.{some}
 use lib.ListN.{length, take, drop}
 use lib.Seq.{length-take-le}
-use lib.Dec.{eqb, leb, ltb}
-use borrow.Author.Tests.{ltb-true, le-leb, lt-leb, eq-eqb, ne-eqb, not-true, not-false}
+use lib.Dec.{eqb, ltb}
+use borrow.Author.Tests.{ltb-true, le-ltb, lt-ltb, eq-eqb, ne-eqb, not-true, not-false}
 use Rattle.refusal.specs.Numbers.{notTaken, wrongTime, segmentFull, onlyPlace}
 use Rattle.refusal.specs.Answer.{ok, refusalFor, paperVerdict}
 use Rattle.refusal.specs.declared.Refusal.{Refusal}
@@ -29,7 +29,10 @@ use Rattle.blocks.specs.Content.{holding, contentOf}
 use Rattle.blocks.specs.Held.{heldContent, Fits}
 use Rattle.blocks.specs.declared.Held.{Held}
 use Rattle.blocks.proofs.Numbers.{Bytes}
-use Rattle.steps.specs.Calls.{Edit, add, remove, setPurge, editing, on, Answer, edited, inRange, was, purging, adding, removing, member, without}
+use Rattle.steps.specs.Calls.{Edit, add, remove, setPurge, editing, on, BookAnswer, was, settle, inRange, member, without}
+use Rattle.steps.proofs.Order as order
+use Rattle.steps.proofs.Order.{add-there, remove-absent, remove-there, purge-given}
+use Rattle.steps.proofs.Leaving.{edited}
 use Rattle.layout.specs.Rule.{paperReply, Does}
 use Rattle.layout.specs.declared.Reply.{Reply}
 use Rattle.layout.specs.declared.Reply.the-variants as reply
@@ -73,19 +76,19 @@ module _ (l : List ℕ) (d s k : ℕ) (w : Works l d s k) (h : Held) (f : Fits h
     kept-does : edited issue e held ≡ (paperReply a, held) → Does l l (on d s (editing e)) a
     kept-does q =
         record {
-          answer = sym (ap (λ (x : Answer × Content). x .0) q) ∙ answer-at l d s k w h is e r;
+          answer = sym (ap (λ (x : BookAnswer × Content). x .0) q) ∙ answer-at l d s k w h is e r;
           left =
               sym (w .kept e r
-              (ap (λ (c : Content). edited issue e c .1) (sym is) ∙ ap (λ (x : Answer × Content). x .1) q ∙ is));
+              (ap (λ (c : Content). edited issue e c .1) (sym is) ∙ ap (λ (x : BookAnswer × Content). x .1) q ∙ is));
         }
 
     -- the content c is stored
     stored-does : (c : Content) → edited issue e held ≡ (paperReply a, c) → length (c .places) ≤ capacity → (m : List ℕ) → m ≡ putBlock k (holding (some c)) l
         → Does l m (on d s (editing e)) a
     stored-does c q few m z =
-        let same : edited issue e (contentOf (blockOf k l)) .1 ≡ c = ap (λ (c : Content). edited issue e c .1) (sym is) ∙ ap (λ (x : Answer × Content). x .1) q in
+        let same : edited issue e (contentOf (blockOf k l)) .1 ≡ c = ap (λ (c : Content). edited issue e c .1) (sym is) ∙ ap (λ (x : BookAnswer × Content). x .1) q in
         record {
-          answer = sym (ap (λ (x : Answer × Content). x .0) q) ∙ answer-at l d s k w h is e r;
+          answer = sym (ap (λ (x : BookAnswer × Content). x .0) q) ∙ answer-at l d s k w h is e r;
           left =
               z ∙ sym (w .stored e r (subst (λ (c : Content). length (c .places) ≤ capacity) (sym same) few)
               ∙ ap (λ (c : Content). putBlock k (holding (some c)) l) same);
@@ -104,18 +107,16 @@ module _ (l : List ℕ) (d s k : ℕ) (w : Works l d s k) (h : Held) (f : Fits h
 
     -- 5
     pub purge-none : m ≡ moment.Nothing → (a : Reply) → a ≡ reply.Refused (refusalFor wrongTime 0) → Does l l (on d s (editing (setPurge time))) a
-    unfolding edited
     purge-none nothing a e =
         kept-does (setPurge time) in-time a
-        (ap (purging held) (given ∙ ap paperMoment nothing) ∙ ap (λ (r : Reply). (paperReply r, held)) (sym e))
+        (ap (settle held) (order.purge-none issue held time (given ∙ ap paperMoment nothing)) ∙ ap (λ (r : Reply). (paperReply r, held)) (sym e))
 
     pub purge-some : (minute : ℕ) → m ≡ moment.At minute → (p : ℕ) → p ≡ minute
         → (n : List ℕ) → n ≡ putBlock k (holding (some (heldContent (record { purge = p; places = h .places; count = h .count })))) l
         → Does l n (on d s (editing (setPurge time))) (reply.Number minute)
-    unfolding edited
     purge-some minute at p e n q =
         stored-does (setPurge time) in-time (reply.Number minute) (record { purge = minute; places = take (h .count) (h .places) })
-        (ap (purging held) (given ∙ ap paperMoment at)) (omega (arith, count-is h f, f .few)) n
+        (ap (settle held) (purge-given issue held time minute (given ∙ ap paperMoment at))) (omega (arith, count-is h f, f .few)) n
         (q ∙ ap (λ (i : ℕ). putBlock k (holding (some (heldContent (record { purge = i; places = h .places; count = h .count })))) l) e)
 
   -- add, remove: q is the place p
@@ -128,45 +129,44 @@ module _ (l : List ℕ) (d s k : ℕ) (w : Works l d s k) (h : Held) (f : Fits h
     few-of g fg = omega (arith, length-take-le (g .count) (g .places) (omega (arith, fg .long, fg .few)), fg .few)
 
     pub add-old : t ≡ true → Does l l (on d s (editing (add p))) (reply.Was true)
-    unfolding edited
-    add-old u = kept-does (add p) range (reply.Was true) (ap (λ (b : Bool). adding p held b (leb capacity (length (held .places)))) (there ∙ u))
+    add-old u = kept-does (add p) range (reply.Was true) (ap (settle held) (add-there issue held p (there ∙ u)))
 
     module _ (u : t ≡ false) where
-      adds : (b : Bool) → leb capacity (h .count) ≡ b → edited issue (add p) held ≡ adding p held false b
-      unfolding edited
-      adds b e = ap₂ (λ (x y : Bool). adding p held x y) (there ∙ u) (ap (leb capacity) (count-is h f) ∙ e)
+      room-is : (b : Bool) → ltb (h .count) capacity ≡ b → ltb (length (held .places)) capacity ≡ b
+      room-is b e = ap (λ (n : ℕ). ltb n capacity) (count-is h f) ∙ e
 
       -- 19
       pub add-full : capacity ≤ h .count → (a : Reply) → a ≡ reply.Refused (refusalFor segmentFull 0) → Does l l (on d s (editing (add p))) a
-      add-full full a e = kept-does (add p) range a (adds true (le-leb capacity (h .count) full) ∙ ap (λ (r : Reply). (paperReply r, held)) (sym e))
+      add-full full a e =
+          kept-does (add p) range a
+          (ap (settle held) (order.add-full issue held p (there ∙ u) (room-is false (le-ltb (h .count) capacity full))) ∙ ap (λ (r : Reply). (paperReply r, held)) (sym e))
 
       pub add-new : h .count < capacity → (g : Held) → heldContent g ≡ record { purge = h .purge; places = insert q (take (h .count) (h .places)) } → Fits g
           → (m : List ℕ) → m ≡ putBlock k (holding (some (heldContent g))) l → Does l m (on d s (editing (add p))) (reply.Was false)
       add-new room g e fg =
           stored-does (add p) range (reply.Was false) (heldContent g)
-          (adds false (lt-leb capacity (h .count) room)
+          (ap (settle held) (order.add-new issue held p (there ∙ u) (room-is true (lt-ltb (h .count) capacity room)))
           ∙ ap (λ (c : Content). (ok (was false), c)) (sym (e ∙ ap (λ (i : ℕ). record { purge = h .purge; places = insert i (take (h .count) (h .places)) }) same)))
           (few-of g fg)
 
     pub remove-none : not t ≡ true → Does l l (on d s (editing (remove p))) (reply.Was false)
-    unfolding edited
-    remove-none u =
-        kept-does (remove p) range (reply.Was false) (ap (λ (b : Bool). removing p held b (eqb (length (held .places)) 1)) (there ∙ not-true t u))
+    remove-none u = kept-does (remove p) range (reply.Was false) (ap (settle held) (remove-absent issue held p (there ∙ not-true t u)))
 
     module _ (u : not t ≡ false) where
-      removes : (b : Bool) → eqb (h .count) 1 ≡ b → edited issue (remove p) held ≡ removing p held true b
-      unfolding edited
-      removes b e = ap₂ (λ (x y : Bool). removing p held x y) (there ∙ not-false t u) (ap (λ (n : ℕ). eqb n 1) (count-is h f) ∙ e)
+      one-is : (b : Bool) → eqb (h .count) 1 ≡ b → eqb (length (held .places)) 1 ≡ b
+      one-is b e = ap (λ (n : ℕ). eqb n 1) (count-is h f) ∙ e
 
       -- 20
       pub remove-only : h .count ≡ 1 → (a : Reply) → a ≡ reply.Refused (refusalFor onlyPlace 0) → Does l l (on d s (editing (remove p))) a
-      remove-only only a e = kept-does (remove p) range a (removes true (eq-eqb (h .count) 1 only) ∙ ap (λ (r : Reply). (paperReply r, held)) (sym e))
+      remove-only only a e =
+          kept-does (remove p) range a
+          (ap (settle held) (order.remove-only issue held p (there ∙ not-false t u) (one-is true (eq-eqb (h .count) 1 only))) ∙ ap (λ (r : Reply). (paperReply r, held)) (sym e))
 
       pub remove-old : (h .count ≡ 1 → ⊥) → (g : Held) → heldContent g ≡ record { purge = h .purge; places = without q (take (h .count) (h .places)) } → Fits g
           → (m : List ℕ) → m ≡ putBlock k (holding (some (heldContent g))) l → Does l m (on d s (editing (remove p))) (reply.Was true)
       remove-old more g e fg =
           stored-does (remove p) range (reply.Was true) (heldContent g)
-          (removes false (ne-eqb (h .count) 1 more)
+          (ap (settle held) (remove-there issue held p (there ∙ not-false t u) (one-is false (ne-eqb (h .count) 1 more)))
           ∙ ap (λ (c : Content). (ok (was true), c)) (sym (e ∙ ap (λ (i : ℕ). record { purge = h .purge; places = without i (take (h .count) (h .places)) }) same)))
           (few-of g fg)
 

@@ -3,7 +3,7 @@ use mathlib.Core.Path.{_≡_, refl, sym, ap, ap₂, _∙_, subst}
 use mathlib.Core.Logic.{_≢_}
 use mathlib.Core.Bool.{Bool, true, false, cond, not}
 use mathlib.Core.List.{List, [], _∷_}
-use mathlib.Core.Option.{Option, none, some}
+use mathlib.Core.Option.{Option, some}
 use Prim.Native.Nat.{ℕ, zero, suc, _+_, _*_, _≤_, _<_}
 use native.Mathlib.Omega.{arith}
 use lib.ListN.{length, getD, getElem?}
@@ -17,7 +17,7 @@ use Rattle.blocks.specs.Block.{blockOf, sameList}
 use Rattle.blocks.specs.Content.{holding}
 use Rattle.blocks.proofs.Contents.{same-list, same-refl, holding-one}
 use Rattle.steps.specs.Book.{Copy, Draft, closed, working, Book, at, draftAt}
-use Rattle.steps.specs.Calls.{same, insertCopy, changes}
+use Rattle.steps.specs.Calls.{sameContent, insertCopy, changes}
 use Rattle.layout.specs.Layout.{draftBytes, segmentOf, copiesOf, heldOf, heldIn, partOf}
 use Rattle.layout.specs.Sound.{Fine, FineCopy, FineTaken, Sound}
 use Rattle.layout.specs.Lies.{Lies}
@@ -30,24 +30,24 @@ use Rattle.history.specs.declared.Found.the-variants as found
 use Rattle.history.specs.Changing.{Placing, Placings, Placed, differing, picked, changesIn, Stands, FindsOne, FindsTwo, Finds}
 
 -- ---- the test of contents
-same-self : (c : Content) → same (some c) c ≡ true
-unfolding same
+same-self : (c : Content) → sameContent (some c) c ≡ true
+unfolding sameContent
 same-self c = rw (eq-eqb (c .purge) (c .purge) refl) (same-refl (c .places))
 
-same-true : (c e : Content) → same (some c) e ≡ true → c ≡ e
-unfolding same
+same-true : (c e : Content) → sameContent (some c) e ≡ true → c ≡ e
+unfolding sameContent
 same-true c e t =
     let p : c .purge ≡ e .purge = eqb-true (c .purge) (e .purge) (and-left (eqb (c .purge) (e .purge)) (sameList (c .places) (e .places)) t) in
     let q : c .places ≡ e .places = same-list (c .places) (e .places) (and-right (eqb (c .purge) (e .purge)) (sameList (c .places) (e .places)) t) in
     λ i. record { purge = p i; places = q i }
 
 -- blocks are the same where the contents are
-pub same-blocks-is : (issue : ℕ) (x y : List ℕ) (c e : Content) → Fine issue c → Fine issue e → x ≡ holding (some c) → y ≡ holding (some e) → sameList x y ≡ same (some c) e
+pub same-blocks-is : (issue : ℕ) (x y : List ℕ) (c e : Content) → Fine issue c → Fine issue e → x ≡ holding (some c) → y ≡ holding (some e) → sameList x y ≡ sameContent (some c) e
 same-blocks-is issue x y c e f g p q =
-    same-test (sameList x y) (same (some c) e)
+    same-test (sameList x y) (sameContent (some c) e)
     (λ t.
     let h : c ≡ e = holding-one issue c e f g (sym p ∙ same-list x y t ∙ q) in
-    ap (λ (z : Content). same (some z) e) h ∙ same-self e)
+    ap (λ (z : Content). sameContent (some z) e) h ∙ same-self e)
     (λ t.
     let h : c ≡ e = same-true c e t in
     let r : x ≡ y = p ∙ ap (λ (z : Content). holding (some z)) h ∙ sym q in
@@ -56,17 +56,17 @@ same-blocks-is issue x y c e f g p q =
 -- of a copy and its segment
 module _ (l : List ℕ) (b : Book) (lies : Lies l b) (sound : Sound b) where
   decides : (s : ℕ) (e : Content) (k : ℕ) → 1 ≤ s → s ≤ length (b .segments) → Fine (b .issue) e → blockOf k l ≡ holding (some e)
-      → sameList (blockOf s l) (blockOf k l) ≡ same (at (b .segments) s) e
+      → sameList (blockOf s l) (blockOf k l) ≡ sameContent (at (b .segments) s) e
   decides zero e k h g f p = impossible (omega arith)
   decides (suc n) e k h g f p =
       let c : Content = getD (b .segments) n blank in
       let q : getElem? (b .segments) n ≡ some c = get-some blank (b .segments) n (omega arith) in
       same-blocks-is (b .issue) (blockOf (suc n) l) (blockOf k l) c e (all-get blank n (sound .contents) (omega arith)) f
       (lies-segment l b lies n (omega (arith, sound .eight)) ∙ ap holding q) p
-      ∙ ap (λ (o : Option Content). same o e) (sym q)
+      ∙ ap (λ (o : Option Content). sameContent o e) (sym q)
 
   pub differing-is : (q : Copy) (k : ℕ) → FineCopy (b .issue) (length (b .segments)) q → blockOf k l ≡ holding (some (q .held))
-      → differing l (q .segment) k ≡ not (same (at (b .segments) (q .segment)) (q .held))
+      → differing l (q .segment) k ≡ not (sameContent (at (b .segments) (q .segment)) (q .held))
   unfolding differing
   differing-is q k f p = let h = f .from in rw (ne-eqb (q .segment) 0 (λ e. omega arith)) (ap not (decides (q .segment) (q .held) k (f .from) (f .to) (f .fine) p))
 
@@ -96,28 +96,28 @@ module _ (b : Book) where
   unfolding picked changes
   finds-0 s t x i y j e f = rw (e, f) refl
 
-  pub finds-1 : (q : Copy) (s t : Bool) (i y j : ℕ) → s ≡ not (same (at (b .segments) (q .segment)) (q .held)) → t ≡ false → Stands b (q .segment) i (q .held)
+  pub finds-1 : (q : Copy) (s t : Bool) (i y j : ℕ) → s ≡ not (sameContent (at (b .segments) (q .segment)) (q .held)) → t ≡ false → Stands b (q .segment) i (q .held)
       → Finds b (picked s t (q .segment) i y j) (changes (b .segments) (q ∷ []))
   unfolding picked changes insertCopy
   finds-1 q s t i y j e f st =
-      by (same (at (b .segments) (q .segment)) (q .held))
-      (λ h. rw (not-same s (same (at (b .segments) (q .segment)) (q .held)) e h, f, h) refl)
-      (λ h. rw (not-other s (same (at (b .segments) (q .segment)) (q .held)) e h, f, h) (finds-single b q i st))
+      by (sameContent (at (b .segments) (q .segment)) (q .held))
+      (λ h. rw (not-same s (sameContent (at (b .segments) (q .segment)) (q .held)) e h, f, h) refl)
+      (λ h. rw (not-other s (sameContent (at (b .segments) (q .segment)) (q .held)) e h, f, h) (finds-single b q i st))
 
-  pub finds-2 : (q p : Copy) (s t : Bool) (i j : ℕ) → s ≡ not (same (at (b .segments) (q .segment)) (q .held)) → t ≡ not (same (at (b .segments) (p .segment)) (p .held))
+  pub finds-2 : (q p : Copy) (s t : Bool) (i j : ℕ) → s ≡ not (sameContent (at (b .segments) (q .segment)) (q .held)) → t ≡ not (sameContent (at (b .segments) (p .segment)) (p .held))
       → Stands b (q .segment) i (q .held) → Stands b (p .segment) j (p .held)
       → Finds b (picked s t (q .segment) i (p .segment) j) (changes (b .segments) (q ∷ p ∷ []))
   unfolding picked changes insertCopy
   finds-2 q p s t i j e f st st2 =
-      by (same (at (b .segments) (q .segment)) (q .held))
-      (λ h. by (same (at (b .segments) (p .segment)) (p .held))
-      (λ g. rw (not-same s (same (at (b .segments) (q .segment)) (q .held)) e h, not-same t (same (at (b .segments) (p .segment)) (p .held)) f g, h, g) refl)
-      (λ g. rw (not-same s (same (at (b .segments) (q .segment)) (q .held)) e h, not-other t (same (at (b .segments) (p .segment)) (p .held)) f g, h, g) (finds-single b p j st2)))
-      (λ h. by (same (at (b .segments) (p .segment)) (p .held))
-      (λ g. rw (not-other s (same (at (b .segments) (q .segment)) (q .held)) e h, not-same t (same (at (b .segments) (p .segment)) (p .held)) f g, h, g) (finds-single b q i st))
+      by (sameContent (at (b .segments) (q .segment)) (q .held))
+      (λ h. by (sameContent (at (b .segments) (p .segment)) (p .held))
+      (λ g. rw (not-same s (sameContent (at (b .segments) (q .segment)) (q .held)) e h, not-same t (sameContent (at (b .segments) (p .segment)) (p .held)) f g, h, g) refl)
+      (λ g. rw (not-same s (sameContent (at (b .segments) (q .segment)) (q .held)) e h, not-other t (sameContent (at (b .segments) (p .segment)) (p .held)) f g, h, g) (finds-single b p j st2)))
+      (λ h. by (sameContent (at (b .segments) (p .segment)) (p .held))
+      (λ g. rw (not-other s (sameContent (at (b .segments) (q .segment)) (q .held)) e h, not-same t (sameContent (at (b .segments) (p .segment)) (p .held)) f g, h, g) (finds-single b q i st))
       (λ g. by (ltb (q .segment) (p .segment))
-      (λ o. rw (not-other s (same (at (b .segments) (q .segment)) (q .held)) e h, not-other t (same (at (b .segments) (p .segment)) (p .held)) f g, h, g, o) (finds-both b q p i j st st2))
-      (λ o. rw (not-other s (same (at (b .segments) (q .segment)) (q .held)) e h, not-other t (same (at (b .segments) (p .segment)) (p .held)) f g, h, g, o) (finds-both b p q j i st2 st))))
+      (λ o. rw (not-other s (sameContent (at (b .segments) (q .segment)) (q .held)) e h, not-other t (sameContent (at (b .segments) (p .segment)) (p .held)) f g, h, g, o) (finds-both b q p i j st st2))
+      (λ o. rw (not-other s (sameContent (at (b .segments) (q .segment)) (q .held)) e h, not-other t (sameContent (at (b .segments) (p .segment)) (p .held)) f g, h, g, o) (finds-both b p q j i st2 st))))
 
 -- ---- in the bytes of a draft, counted from 0
 module _ (l : List ℕ) (b : Book) (lies : Lies l b) (sound : Sound b) (d : ℕ) (high : d < 4) (ks : List Copy)
@@ -150,7 +150,7 @@ module _ (l : List ℕ) (b : Book) (lies : Lies l b) (sound : Sound b) (d : ℕ)
   stands-is q k j h e g f = record { one = f .from; there = f .to; held = held-is k j h e ∙ ap heldOf g }
 
   says-is : (q : Copy) (k j : ℕ) → j < 2 → k ≡ 9 + 2 * d + j → getElem? ks j ≡ some q → FineCopy (b .issue) (length (b .segments)) q
-      → differing l (q .segment) k ≡ not (same (at (b .segments) (q .segment)) (q .held))
+      → differing l (q .segment) k ≡ not (sameContent (at (b .segments) (q .segment)) (q .held))
   says-is q k j h e g f = differing-is l b lies sound q k f (block-is k j h e ∙ ap (λ (o : Option Copy). holding (heldOf o)) g)
 
 -- the changes of its copies

@@ -10,12 +10,13 @@ use lib.Dec.{eqb}
 use borrow.Author.Tests.{eq-eqb, ne-eqb}
 use Rattle.laws.proofs.Tests.{impossible}
 use Rattle.laws.proofs.Lookups.{get-none}
-use Rattle.refusal.specs.Numbers.{noDraft, staleDraft}
 use Rattle.blocks.specs.Block.{bookLength}
 use Rattle.blocks.proofs.Numbers.{Bytes}
 use Rattle.steps.specs.Book.{Copy, Draft, closed, working, Book, orClosed, draftAt}
 use Rattle.refusal.specs.Answer.{ok}
-use Rattle.steps.specs.Calls.{commit, changed, refused, changes, commits, step}
+use Rattle.steps.specs.Calls.{commit, changed, changes, segmentsNamed, committed}
+use Rattle.steps.proofs.Order as order
+use Rattle.steps.proofs.Order.{commit-closed, commit-fresh}
 use Rattle.layout.specs.Layout.{copiesAt, bookOf}
 use Rattle.layout.specs.Sound.{FineTaken, FineDraft, closed-fine, working-fine, Sound}
 use Rattle.layout.specs.Tests.{isSound}
@@ -29,7 +30,7 @@ use Rattle.layout.proofs.Parts.{sound-parts, draft-cases}
 use Rattle.layout.proofs.Said.{drafts-length, draft-of, draft-shut, draft-open}
 use Rattle.layout.proofs.Back.{sound-lies}
 use Rattle.layout.proofs.SoundBack.{sound-book}
-use Rattle.layout.proofs.Rules.{does-short, does-unsound, does-nothing, does-step}
+use Rattle.layout.proofs.Rules.{does-short, does-unsound, does-refused, does-step}
 use Rattle.keeping.proofs.Parts.{draft-is}
 use Rattle.history.specs.declared.Found.{Found}
 use Rattle.history.specs.Changing.{Placed, changesIn, Finds, Leaves}
@@ -38,19 +39,6 @@ use Rattle.history.proofs.CommitFound.{finds-copies, changes-placed}
 -- a refusal as the code gives it
 abbrev pub Refuses : Reply → ℕ → Type 0
 Refuses r number = r ≡ reply.Refused (record { number = number; place = 0 })
-
--- ---- the step
-step-closed : (b : Book) (d : ℕ) → draftAt (b .drafts) d ≡ closed → step b (commit d) ≡ (refused noDraft, b)
-unfolding step
-step-closed b d e = ap (commits b d) e
-
-step-stale : (b : Book) (d : ℕ) (ks : List Copy) → draftAt (b .drafts) d ≡ working ks true → step b (commit d) ≡ (refused staleDraft, b)
-unfolding step
-step-stale b d ks e = ap (commits b d) e
-
-step-fresh : (b : Book) (d : ℕ) (ks : List Copy) → draftAt (b .drafts) d ≡ working ks false → step b (commit d) ≡ commits b d (working ks false)
-unfolding step
-step-fresh b d ks e = ap (commits b d) e
 
 -- ---- the draft that bytes tell
 draft-0 : (ds : List Draft) (d : ℕ) → d < 1 → draftAt ds d ≡ closed
@@ -135,23 +123,23 @@ commit-unsound l d r h e p = does-unsound l (commit d) r h e (ap paperReply p)
 
 module _ (l : List ℕ) (d : ℕ) (r : Reply) (bytes : Bytes l) (long : length l ≡ bookLength) (sound : isSound l ≡ true) where
   pub commit-low : d < 1 → Refuses r 13 → Does l l (commit d) r
-  commit-low h p = does-nothing l (commit d) r bytes long sound (refused noDraft) (step-closed (bookOf l) d (draft-0 (bookOf l .drafts) d h)) (ap paperReply p)
+  commit-low h p = does-refused l (commit d) r long sound 13 0 (commit-closed (bookOf l) d (draft-0 (bookOf l .drafts) d h)) (ap paperReply p)
 
   pub commit-high : 4 < d → Refuses r 13 → Does l l (commit d) r
   commit-high h p =
-      does-nothing l (commit d) r bytes long sound (refused noDraft) (step-closed (bookOf l) d (draft-5 (bookOf l .drafts) d (drafts-length l) h)) (ap paperReply p)
+      does-refused l (commit d) r long sound 13 0 (commit-closed (bookOf l) d (draft-5 (bookOf l .drafts) d (drafts-length l) h)) (ap paperReply p)
 
   pub commit-shut : 1 ≤ d → d ≤ 4 → (o : ℕ) → o ≡ getD l (4 + 4 * d) 0 → o ≡ 0 → Refuses r 13 → Does l l (commit d) r
   commit-shut h g o e f p =
-      does-nothing l (commit d) r bytes long sound (refused noDraft) (step-closed (bookOf l) d (draft-closed l d h g (sym e ∙ f))) (ap paperReply p)
+      does-refused l (commit d) r long sound 13 0 (commit-closed (bookOf l) d (draft-closed l d h g (sym e ∙ f))) (ap paperReply p)
 
 -- a stale draft
 pub commit-stale : (l : List ℕ) (d : ℕ) (r : Reply) → Bytes l → length l ≡ bookLength → isSound l ≡ true → 1 ≤ d → d ≤ 4
     → (o s : ℕ) → o ≡ getD l (4 + 4 * d) 0 → o ≢ 0 → s ≡ getD l (7 + 4 * d) 0 → s ≡ 1 → Refuses r 21 → Does l l (commit d) r
 commit-stale l zero r bytes long sound h g o s e f a b p = impossible (omega arith)
 commit-stale l (suc d) r bytes long sound h g o s e f a b p =
-    does-nothing l (commit (suc d)) r bytes long sound (refused staleDraft)
-    (step-stale (bookOf l) (suc d) (copiesIn l d)
+    does-refused l (commit (suc d)) r long sound 21 0
+    (order.commit-stale (bookOf l) (suc d) (copiesIn l d)
     (draft-working l sound d (omega arith) (λ z. f (e ∙ z)) true (eq-eqb (getD l (7 + 4 * suc d) 0) 1 (sym a ∙ b))))
     (ap paperReply p)
 
@@ -177,7 +165,7 @@ fresh-done l m d f c bytes long sound h e ks w p =
     let cs : List Copy = changes (b .segments) ks in
     let finds : Finds b f cs = subst (λ (x : Found). Finds b x cs) (sym e) (finds-copies l b lies fit d h ks w fine) in
     let left : Leaves c m b (suc d) cs = p b lies fit cs finds in
-    does-step l m (commit (suc d)) (reply.Segments c) long sound (commits b (suc d) (working ks false)) (step-fresh b (suc d) ks w)
+    does-step l m (commit (suc d)) (reply.Segments c) long sound (changed (segmentsNamed cs)) (committed b (suc d) cs) (commit-fresh b (suc d) ks w)
     (ap (λ (ns : List ℕ). ok (changed ns)) (left .says)) (left .left)
 
 pub commit-done : (l m : List ℕ) (d : ℕ) (f : Found) (c : Changed) → Bytes l → length l ≡ bookLength → isSound l ≡ true → 1 ≤ d → d ≤ 4

@@ -1,8 +1,8 @@
 -- What blocks hold is stored as the segments that were found: the same of a commit and of an undo. Assumes nothing.
 use mathlib.Core.Path.{_≡_, sym, ap, _∙_, subst}
-use mathlib.Core.List.{List, map}
+use mathlib.Core.List.{List}
 use mathlib.Core.Option.{some}
-use Prim.Native.Nat.{ℕ, zero, suc, _≤_, _<_}
+use Prim.Native.Nat.{ℕ, zero, suc, _≤_}
 use native.Mathlib.Omega.{arith}
 use lib.ListN.{length}
 use Rattle.laws.proofs.Tests.{impossible}
@@ -10,7 +10,7 @@ use Rattle.laws.proofs.Lists.{All, all-nil, all-cons}
 use Rattle.codes.specs.Block.{Content}
 use Rattle.blocks.specs.Block.{blockCount}
 use Rattle.steps.specs.Book.{Copy, Book, put}
-use Rattle.steps.specs.Calls.{stored, numbers}
+use Rattle.steps.specs.Calls.{stored, segmentsNamed}
 use Rattle.layout.specs.Layout.{partOf, heldIn}
 use Rattle.layout.specs.Sound.{FineDraft}
 use Rattle.layout.specs.Lies.{Lies}
@@ -72,10 +72,10 @@ placed-among end f c says p = record { each = subst (λ (d : Changed). All (λ (
     each (found.Two s from t other) p = all-cons (p .0 .one, p .0 .eight) (all-cons (p .1 .one, p .1 .eight) all-nil)
 
 module _ (b : Book) where
-  pub finds-numbers : (f : Found) (cs : List Copy) → Finds b f cs → numbers cs ≡ segmentsOf (changedOf f)
-  finds-numbers found.Nothing cs e = ap numbers e
-  finds-numbers (found.One s from) cs e = ap numbers (e .are)
-  finds-numbers (found.Two s from t other) cs e = ap numbers (e .are)
+  pub finds-numbers : (f : Found) (cs : List Copy) → Finds b f cs → segmentsNamed cs ≡ segmentsOf (changedOf f)
+  finds-numbers found.Nothing cs e = ap segmentsNamed e
+  finds-numbers (found.One s from) cs e = ap segmentsNamed (e .are)
+  finds-numbers (found.Two s from t other) cs e = ap segmentsNamed (e .are)
 
   pub finds-among : (f : Found) (cs : List Copy) → Finds b f cs → Among (length (b .segments)) (changedOf f)
   finds-among found.Nothing cs e = record { each = all-nil }

@@ -2,16 +2,17 @@
 use mathlib.Core.Path.{_≡_, sym, ap, subst, _∙_}
 use mathlib.Core.Bool.{true}
 use mathlib.Core.List.{List}
-use mathlib.Core.Option.{some}
-use Prim.Native.Nat.{ℕ, _+_, _*_, _-_, _≤_}
+use Prim.Native.Nat.{ℕ, _+_, _-_, _≤_}
 use native.Mathlib.Omega.{arith}
 use lib.ListN.{length, getD}
 use Rattle.refusal.specs.Numbers.{noStep}
-use Rattle.refusal.specs.Answer.{ok}
+use Rattle.refusal.specs.Answer.{ok, refused}
 use Rattle.blocks.specs.Block.{bookLength}
 use Rattle.blocks.proofs.Numbers.{Bytes}
 use Rattle.steps.specs.Book.{Copy, Book}
-use Rattle.steps.specs.Calls.{changed, refused, newest, older, undone, undoes, undo, step}
+use Rattle.steps.specs.Calls.{changed, newest, older, undone, undo, segmentsNamed}
+use Rattle.steps.proofs.Order as order
+use Rattle.steps.proofs.Order.{undo-newest}
 use Rattle.layout.specs.Layout.{stepOf, bytesOf, bookOf}
 use Rattle.layout.specs.Tests.{isSound}
 use Rattle.layout.specs.Lies.{Lies}
@@ -22,7 +23,7 @@ use Rattle.layout.specs.declared.Reply.the-variants as reply
 use Rattle.layout.proofs.Back.{sound-lies}
 use Rattle.layout.proofs.SoundBack.{sound-book}
 use Rattle.layout.proofs.Said.{step-past}
-use Rattle.layout.proofs.Rules.{does-step, does-nothing}
+use Rattle.layout.proofs.Rules.{does-step, does-refused}
 use Rattle.moves.specs.Undo.{withKept}
 use Rattle.moves.proofs.StepsLies.{lies-count}
 use Rattle.history.specs.Changing.{changedOf, stepIn, Finds, replaced, PutsBack}
@@ -67,14 +68,14 @@ module _ (l : List ℕ) (r : ℕ) (y : Bytes l) (s : LastStep l r) (f : Found) (
 -- ---- the call
 pub undo-does : (l : List ℕ) (r : ℕ) → LastStep l r → (m : List ℕ) (c : Changed) → length l ≡ bookLength → PutsBack c m (bookOf l) (stepOf l r)
     → Does l m undo (reply.Segments c)
-unfolding step
 undo-does l r s m c long back =
-    does-step l m undo (reply.Segments c) long (s .sound) (undoes (bookOf l) (some (stepOf l r))) (ap (undoes (bookOf l)) (newest-is l r s))
+    does-step l m undo (reply.Segments c) long (s .sound) (changed (segmentsNamed (stepOf l r))) (undone (bookOf l) (stepOf l r))
+    (undo-newest (bookOf l) (stepOf l r) (newest-is l r s))
     (ap (λ (ns : List ℕ). ok (changed ns)) (back .says)) (back .left)
 
 -- ---- no step
-pub undo-none : (l : List ℕ) (a : Reply) → Bytes l → length l ≡ bookLength → isSound l ≡ true → getD l 24 0 ≡ 0 → paperReply a ≡ refused noStep → Does l l undo a
-unfolding step newest
+pub undo-none : (l : List ℕ) (a : Reply) → Bytes l → length l ≡ bookLength → isSound l ≡ true → getD l 24 0 ≡ 0 → paperReply a ≡ refused noStep 0 → Does l l undo a
+unfolding newest
 undo-none l a y long sound e p =
-    does-nothing l undo a y long sound (refused noStep)
-    (ap (undoes (bookOf l)) (step-past l (length (bookOf l .history .kept) - 1) (omega (arith, e)))) p
+    does-refused l undo a long sound 22 0
+    (order.undo-none (bookOf l) (step-past l (length (bookOf l .history .kept) - 1) (omega (arith, e)))) p

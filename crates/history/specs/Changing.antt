@@ -9,7 +9,7 @@ use lib.Dec.{eqb, ltb}
 use Rattle.codes.specs.Block.{Content}
 use Rattle.blocks.specs.Block.{blockOf, sameList}
 use Rattle.steps.specs.Book.{Copy, Book}
-use Rattle.steps.specs.Calls.{staled, stored, numbers, committed, undone}
+use Rattle.steps.specs.Calls.{staled, stored, segmentsNamed, committed, undone}
 use Rattle.layout.specs.Layout.{bytesOf, partOf, heldIn}
 use Rattle.layout.specs.Rule.{segmentsOf}
 use Rattle.layout.specs.declared.Changed.{Changed}
@@ -96,10 +96,10 @@ replaced b cs = record { issue = b .issue; segments = stored cs (b .segments); d
 
 -- what a commit answers and leaves
 pub record Leaves (r : Changed) (l : List ℕ) (b : Book) (d : ℕ) (cs : List Copy) : Type 0 where
-  pub says : segmentsOf r ≡ numbers cs
+  pub says : segmentsOf r ≡ segmentsNamed cs
   pub left : l ≡ bytesOf (committed b d cs)
 
 -- what an undo answers and leaves
 pub record PutsBack (r : Changed) (l : List ℕ) (b : Book) (cs : List Copy) : Type 0 where
-  pub says : segmentsOf r ≡ numbers cs
+  pub says : segmentsOf r ≡ segmentsNamed cs
   pub left : l ≡ bytesOf (undone b cs)

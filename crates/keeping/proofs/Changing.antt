@@ -13,7 +13,7 @@ use Rattle.laws.proofs.Lists.{All, all-nil, all-cons, all-append, all-map, all-
 use Rattle.laws.proofs.Tests.{or-no, choose}
 use Rattle.codes.specs.Block.{Content}
 use Rattle.steps.specs.Book.{Copy, History, at}
-use Rattle.steps.specs.Calls.{has, same, insertCopy, changes, orElse, oldOf, stepsMost, latest, remember, newest, older}
+use Rattle.steps.specs.Calls.{has, sameContent, insertCopy, changes, orElse, oldOf, stepsMost, latest, remember, newest, older}
 use Rattle.layout.specs.Sound.{Fine, FineCopy, Distinct, none-twice, first-once, UpCopies, none-up, one-up, FineTaken, FineStep, FineHistory}
 use Rattle.keeping.proofs.Parts.{all-stands}
 
@@ -59,7 +59,7 @@ pub changes-all : (P : Copy → Type 0) (segments : List Content) {ks : List Cop
 unfolding changes
 changes-all P segments all-nil = all-nil
 changes-all P segments (all-cons {x = k} {xs = ks} h a) =
-    choose (All P) (same (at segments (k .segment)) (k .held)) (changes segments ks) (insertCopy k (changes segments ks))
+    choose (All P) (sameContent (at segments (k .segment)) (k .held)) (changes segments ks) (insertCopy k (changes segments ks))
     (λ e. changes-all P segments a)
     (λ e. copy-all P k h (changes-all P segments a))
 
@@ -67,7 +67,8 @@ pub changes-length : (segments : List Content) (ks : List Copy) → length (chan
 unfolding changes
 changes-length segments [] = omega arith
 changes-length segments (k ∷ ks) =
-    choose (λ (l : List Copy). length l ≤ suc (length ks)) (same (at segments (k .segment)) (k .held)) (changes segments ks) (insertCopy k (changes segments ks))
+    choose (λ (l : List Copy). length l ≤ suc (length ks)) (sameContent (at segments (k .segment)) (k .held))
+    (changes segments ks) (insertCopy k (changes segments ks))
     (λ e. omega (arith, changes-length segments ks))
     (λ e. omega (arith, changes-length segments ks, copy-length k (changes segments ks)))
 
@@ -75,7 +76,7 @@ pub changes-up : (segments : List Content) {ks : List Copy} → Distinct ks → 
 unfolding changes
 changes-up segments none-twice = none-up
 changes-up segments (first-once {k} {ks} e d) =
-    choose UpCopies (same (at segments (k .segment)) (k .held)) (changes segments ks) (insertCopy k (changes segments ks))
+    choose UpCopies (sameContent (at segments (k .segment)) (k .held)) (changes segments ks) (insertCopy k (changes segments ks))
     (λ q. changes-up segments d)
     (λ q. copy-up k (changes-all (Other (k .segment)) segments (others (k .segment) ks e)) (changes-up segments d))
 

@@ -1,19 +1,19 @@
 -- A content that is fine stays so under every edit in range. Assumes nothing.
-use Prim.Native.Nat.{ℕ, _<_}
-use mathlib.Core.Path.{_≡_, refl}
-use mathlib.Core.Bool.{Bool, true, false}
-use mathlib.Core.Option.{Option, none, some}
-use lib.ListN.{length}
-use lib.Dec.{leb, eqb}
-use borrow.Author.Tests.{ltb-true}
+use Prim.Native.Nat.{ℕ}
+use mathlib.Core.Path.{_≡_}
+use mathlib.Core.Bool.{true, not}
+use lib.ListN.{length, getElem?}
+use lib.Dec.{ltb, eqb}
+use borrow.Author.Tests.{ltb-true, lt-leb, not-true}
 use Rattle.laws.proofs.Tests.{and-left, and-right}
+use Rattle.refusal.specs.Numbers.{wrongTime, segmentFull, onlyPlace, outOfRange}
 use Rattle.calendar.specs.Purge.{purgeOf, isPurge}
-use Rattle.calendar.specs.declared.Stamp.{Stamp}
 use Rattle.calendar.proofs.Laws.{purge-is}
 use Rattle.codes.specs.Places.{placesEnd, capacity, isSet}
 use Rattle.codes.specs.Block.{Content}
 use Rattle.blocks.specs.Content.{isContent}
-use Rattle.steps.specs.Calls.{Edit, readPurge, readCount, readPlace, add, remove, setPurge, editing, member, adding, removing, purging, edited, inRange}
+use Rattle.steps.specs.Calls.{Edit, readPurge, readCount, readPlace, add, remove, setPurge, editing, Value, member, editRule, inRange}
+use Rattle.steps.proofs.Chains.{Told, told-ok, told-must, told-find, told-cond}
 use Rattle.layout.specs.Sound.{Fine}
 use Rattle.keeping.proofs.Places.{insert-set, without-set}
 
@@ -30,27 +30,24 @@ pub fine-purge : (issue : ℕ) (c : Content) → Fine issue c → isPurge issue 
 unfolding isContent
 fine-purge issue c f = and-right (isSet (c .places)) (isPurge issue (c .purge)) f
 
-pub adding-fine : (issue p : ℕ) (c : Content) (there full : Bool) → Fine issue c → p < placesEnd
-    → member p (c .places) ≡ there → leb capacity (length (c .places)) ≡ full → Fine issue (adding p c there full .1)
-adding-fine issue p c true full f h e g = f
-adding-fine issue p c false true f h e g = f
-adding-fine issue p c false false f h e g = fine-is issue _ (insert-set p (c .places) (fine-places issue c f) e g h) (fine-purge issue c f)
-
-pub removing-fine : (issue p : ℕ) (c : Content) (there only : Bool) → Fine issue c
-    → member p (c .places) ≡ there → eqb (length (c .places)) 1 ≡ only → Fine issue (removing p c there only .1)
-removing-fine issue p c false only f e g = f
-removing-fine issue p c true true f e g = f
-removing-fine issue p c true false f e g = fine-is issue _ (without-set p (c .places) (fine-places issue c f) e g) (fine-purge issue c f)
-
-pub purging-fine : (issue : ℕ) (s : Stamp) (c : Content) (o : Option ℕ) → Fine issue c → purgeOf issue s ≡ o → Fine issue (purging c o .1)
-purging-fine issue s c none f e = f
-purging-fine issue s c (some m) f e = fine-is issue _ (fine-places issue c f) (purge-is issue s m e)
-
-pub edited-fine : (issue : ℕ) (e : Edit) (c : Content) → Fine issue c → inRange (editing e) ≡ true → Fine issue (edited issue e c .1)
-unfolding edited
-edited-fine issue readPurge c f r = f
-edited-fine issue readCount c f r = f
-edited-fine issue (readPlace i) c f r = f
-edited-fine issue (add p) c f r = adding-fine issue p c (member p (c .places)) (leb capacity (length (c .places))) f (ltb-true p placesEnd r) refl refl
-edited-fine issue (remove p) c f r = removing-fine issue p c (member p (c .places)) (eqb (length (c .places)) 1) f refl refl
-edited-fine issue (setPurge s) c f r = purging-fine issue s c (purgeOf issue s) f refl
+pub edit-fine : (issue : ℕ) (e : Edit) (c : Content) → Fine issue c → inRange (editing e) ≡ true
+    → Told (λ (z : Value × Content). Fine issue (z .1)) (editRule issue e c)
+unfolding editRule
+edit-fine issue readPurge c f r = told-ok _ f
+edit-fine issue readCount c f r = told-ok _ f
+edit-fine issue (readPlace i) c f r = told-find (getElem? (c .places) i) outOfRange _ (λ p e. told-ok _ f)
+edit-fine issue (add p) c f r =
+    told-cond (member p (c .places)) _ _
+    (λ t. told-ok _ f)
+    (λ t. told-must (ltb (length (c .places)) capacity) segmentFull _
+    (λ u. told-ok _ (fine-is issue _
+    (insert-set p (c .places) (fine-places issue c f) t
+    (lt-leb capacity (length (c .places)) (ltb-true (length (c .places)) capacity u)) (ltb-true p placesEnd r))
+    (fine-purge issue c f))))
+edit-fine issue (remove p) c f r =
+    told-cond (member p (c .places)) _ _
+    (λ t. told-must (not (eqb (length (c .places)) 1)) onlyPlace _
+    (λ u. told-ok _ (fine-is issue _ (without-set p (c .places) (fine-places issue c f) t (not-true _ u)) (fine-purge issue c f))))
+    (λ t. told-ok _ f)
+edit-fine issue (setPurge s) c f r =
+    told-find (purgeOf issue s) wrongTime _ (λ m e. told-ok _ (fine-is issue _ (fine-places issue c f) (purge-is issue s m e)))

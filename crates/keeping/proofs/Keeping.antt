@@ -1,18 +1,21 @@
 -- Every call keeps a sound book sound, and a book that is made is sound. Assumes nothing.
 use Prim.Native.Nat.{ℕ, _≤_}
 use native.Mathlib.Omega.{arith}
-use mathlib.Core.Path.{_≡_, refl, _∙_}
-use mathlib.Core.Bool.{true, false}
+use mathlib.Core.Path.{_≡_, refl, _∙_, subst}
+use mathlib.Core.Bool.{true, false, not}
 use mathlib.Core.List.{List, [], map}
-use mathlib.Core.Option.{Option, none, some}
+use mathlib.Core.Option.{some}
 use lib.ListN.{length, length-map}
 use Rattle.laws.proofs.Tests.{apart}
 use Rattle.laws.proofs.Lists.{All, all-nil, all-cons}
+use Rattle.laws.proofs.Lookups.{some-same}
+use Rattle.refusal.specs.Numbers.{noDraft, allOpen, noSuchSegment, staleDraft, noStep, outOfRange}
 use Rattle.codes.specs.Block.{Content}
 use Rattle.steps.specs.Book.{Copy, Draft, closed, working, History, Book, at, put, draftAt, newBook}
-use Rattle.steps.specs.Calls.{Work, Call, opening, on, commit, drop, undo, work, staled, stored, changes, oldOf, remember, newest, older, withDrafts, lowest, opens, acts, commits, drops, undoes, step}
-use Rattle.layout.specs.Sound.{isIssue, Fine, FineCopy, none-twice, FineDraft, closed-fine, working-fine, FineHistory, Sound}
-use Rattle.keeping.proofs.Parts.{put-length, all-put, draft-is}
+use Rattle.steps.specs.Calls.{Call, opening, on, commit, drop, undo, Value, inRange, workRule, staled, stored, changes, oldOf, remember, newest, older, withDrafts, lowest, committed, undone, OpenDraft, openDraft, bookRule, step}
+use Rattle.steps.proofs.Chains.{Told, told-ok, told-must, told-find, told-then, told-left}
+use Rattle.layout.specs.Sound.{isIssue, Fine, FineCopy, none-twice, FineTaken, FineDraft, closed-fine, working-fine, FineHistory, Sound}
+use Rattle.keeping.proofs.Parts.{put-length, all-put, all-stands, draft-is}
 use Rattle.keeping.proofs.Working.{work-fine}
 use Rattle.keeping.proofs.Storing.{stored-length, stored-fine, staled-all}
 use Rattle.keeping.proofs.Changing.{changes-fine, old-changes, remember-fine, newest-fine, older-fine}
@@ -65,53 +68,60 @@ store-sound b cs ds past c e f p h =
     }
 
 -- ---- the calls
-pub opens-sound : (b : Book) (o : Option ℕ) → Sound b → Sound (opens b o .1)
-opens-sound b none h = h
-opens-sound b (some d) h =
-    put-sound b d (working [] false)
-    (working-fine (record { two = omega arith; copies = all-nil; distinct = none-twice; taken = λ (e : false ≡ true). apart cc })) h
+-- an open draft of a sound book
+pub open-fine : {issue n : ℕ} {y : Draft} {x : OpenDraft} → FineDraft issue n y → openDraft y ≡ some x → FineTaken issue n (x .copies) (x .stale)
+open-fine closed-fine e = apart cc
+open-fine {issue} {n} (working-fine f) e = subst (λ (x : OpenDraft). FineTaken issue n (x .copies) (x .stale)) (some-same e) f
 
-pub acts-sound : (b : Book) (d s : ℕ) (w : Work) (x : Draft) → FineDraft (b .issue) (length (b .segments)) x → Sound b → Sound (acts b d s w x .1)
-acts-sound b d s w closed f h = h
-acts-sound b d s w (working ks stale) (working-fine f) h =
-    put-sound b d (working (work (b .issue) s (at (b .segments) s) w ks .1) stale)
-    (working-fine (work-fine (b .issue) s (b .segments) w ks stale (h .contents) f)) h
+module _ (b : Book) (h : Sound b) where
+  abbrev i : ℕ
+  i = b .issue
 
-pub commits-sound : (b : Book) (d : ℕ) (x : Draft) → FineDraft (b .issue) (length (b .segments)) x → Sound b → Sound (commits b d x .1)
-commits-sound b d closed f h = h
-commits-sound b d (working ks true) f h = h
-commits-sound b d (working ks false) (working-fine f) h =
-    let i = b .issue in
-    let n = length (b .segments) in
-    let cs = changes (b .segments) ks in
-    let c = changes-fine i n (b .segments) ks false f in
-    store-sound b cs (put (map (staled cs) (b .drafts)) d closed) (remember (map (oldOf (b .segments)) cs) (b .history)) (c .copies)
-    (put-length (map (staled cs) (b .drafts)) d closed ∙ length-map (b .drafts) (staled cs) ∙ h .four)
-    (all-put d closed closed-fine (staled-all i n cs (h .drafts)))
-    (remember-fine i n (map (oldOf (b .segments)) cs) (b .history) (old-changes i n (b .segments) cs (h .contents) c) (h .past))
-    h
+  abbrev n : ℕ
+  n = length (b .segments)
 
-pub drops-sound : (b : Book) (d : ℕ) (x : Draft) → Sound b → Sound (drops b d x .1)
-drops-sound b d closed h = h
-drops-sound b d (working ks stale) h = put-sound b d closed closed-fine h
+  opened : (d : ℕ) {x : OpenDraft} → openDraft (draftAt (b .drafts) d) ≡ some x → FineTaken i n (x .copies) (x .stale)
+  opened d e = open-fine (draft-fine b d h) e
 
-pub undoes-sound : (b : Book) (o : Option (List Copy)) → newest (b .history .kept) ≡ o → Sound b → Sound (undoes b o .1)
-undoes-sound b none e h = h
-undoes-sound b (some cs) e h =
-    let i = b .issue in
-    let n = length (b .segments) in
-    store-sound b cs (map (staled cs) (b .drafts)) (record { kept = older (b .history .kept) })
-    (newest-fine i n (b .history) cs (h .past) e .copies)
-    (length-map (b .drafts) (staled cs) ∙ h .four)
-    (staled-all i n cs (h .drafts))
-    (older-fine i n (b .history) (h .past))
-    h
+  commit-sound : (d : ℕ) (x : OpenDraft) → FineTaken i n (x .copies) (x .stale) → Sound (committed b d (changes (b .segments) (x .copies)))
+  commit-sound d x f =
+      let cs = changes (b .segments) (x .copies) in
+      let c = changes-fine i n (b .segments) (x .copies) (x .stale) f in
+      store-sound b cs (put (map (staled cs) (b .drafts)) d closed) (remember (map (oldOf (b .segments)) cs) (b .history)) (c .copies)
+      (put-length (map (staled cs) (b .drafts)) d closed ∙ length-map (b .drafts) (staled cs) ∙ h .four)
+      (all-put d closed closed-fine (staled-all i n cs (h .drafts)))
+      (remember-fine i n (map (oldOf (b .segments)) cs) (b .history) (old-changes i n (b .segments) cs (h .contents) c) (h .past))
+      h
+
+  undo-sound : (cs : List Copy) → newest (b .history .kept) ≡ some cs → Sound (undone b cs)
+  undo-sound cs e =
+      store-sound b cs (map (staled cs) (b .drafts)) (record { kept = older (b .history .kept) })
+      (newest-fine i n (b .history) cs (h .past) e .copies)
+      (length-map (b .drafts) (staled cs) ∙ h .four)
+      (staled-all i n cs (h .drafts))
+      (older-fine i n (b .history) (h .past))
+      h
+
+  -- every call leaves a sound book
+  pub rule-fine : (c : Call) → Told (λ (z : Value × Book). Sound (z .1)) (bookRule b c)
+  unfolding bookRule
+  rule-fine opening =
+      told-find (lowest 1 (b .drafts)) allOpen _ (λ d e. told-ok _ (put-sound b d (working [] false)
+      (working-fine (record { two = omega arith; copies = all-nil; distinct = none-twice; taken = λ (q : false ≡ true). apart cc })) h))
+  rule-fine (on d s w) =
+      told-find (openDraft (draftAt (b .drafts) d)) noDraft _ (λ x e. told-must (inRange w) outOfRange _ (λ r. told-find (at (b .segments) s) noSuchSegment _
+      (λ c g.
+      let a = all-stands (b .segments) s c (h .contents) g in
+      told-then (workRule i s c w (x .copies)) _
+      (work-fine i n s (x .stale) c (x .copies) (opened d e) w r (record { from = a .from; to = a .to; fine = a .is }))
+      (λ z f. told-ok _ (put-sound b d (working (z .1) (x .stale)) (working-fine f) h)))))
+  rule-fine (commit d) =
+      told-find (openDraft (draftAt (b .drafts) d)) noDraft _ (λ x e. told-must (not (x .stale)) staleDraft _ (λ t. told-ok _ (commit-sound d x (opened d e))))
+  rule-fine (drop d) =
+      told-find (openDraft (draftAt (b .drafts) d)) noDraft _ (λ x e. told-ok _ (put-sound b d closed closed-fine h))
+  rule-fine undo = told-find (newest (b .history .kept)) noStep _ (λ cs e. told-ok _ (undo-sound cs e))
 
 -- every call keeps a book sound
 pub step-sound : (b : Book) (c : Call) → Sound b → Sound (step b c .1)
 unfolding step
-step-sound b opening h = opens-sound b (lowest 1 (b .drafts)) h
-step-sound b (on d s w) h = acts-sound b d s w (draftAt (b .drafts) d) (draft-fine b d h) h
-step-sound b (commit d) h = commits-sound b d (draftAt (b .drafts) d) (draft-fine b d h) h
-step-sound b (drop d) h = drops-sound b d (draftAt (b .drafts) d) h
-step-sound b undo h = undoes-sound b (newest (b .history .kept)) refl h
+step-sound b c h = told-left Sound b (bookRule b c) h (rule-fine b h c)

@@ -5,4 +5,5 @@ pub mod Working
 pub mod Storing
 pub mod Changing
 pub mod Keeping
+pub mod Reading
 pub mod Bytewise

@@ -3,22 +3,23 @@ use Prim.Native.Nat.{ℕ, suc, _<_}
 use native.Mathlib.Omega.{arith}
 use native.Mathlib.Numerals.{add-one}
 use mathlib.Core.Path.{_≡_, refl, sym, ap, _∙_, subst}
-use mathlib.Core.Bool.{Bool, true, false, cond, _||_}
+use mathlib.Core.Bool.{Bool, true, false, not}
 use mathlib.Core.List.{List, [], _∷_, _++_}
-use mathlib.Core.Option.{Option, none, some}
+use mathlib.Core.Option.{Option, some}
 use lib.ListN.{length, length-append}
-use lib.Dec.{leb, eqb}
-use borrow.Author.Tests.{leb-false, eqb-false, ne-eqb}
+use lib.Dec.{ltb, eqb}
+use borrow.Author.Tests.{ltb-true, eqb-false, ne-eqb, not-true}
 use Rattle.steps.proofs.Agree.{has-recopy}
 use Rattle.laws.proofs.Tests.{apart, either-way, or-no, choose}
 use Rattle.laws.proofs.Lists.{All, all-nil, all-cons, all-append}
 use Rattle.laws.proofs.Lookups.{some-same}
+use Rattle.refusal.specs.Numbers.{notTaken, takenAlready, twoTaken}
 use Rattle.codes.specs.Block.{Content}
-use Rattle.steps.specs.Book.{Copy, at}
-use Rattle.steps.specs.Calls.{Work, taking, editing, edited, inRange, copyOf, recopy, takes, works, ranged, work, has}
+use Rattle.steps.specs.Book.{Copy}
+use Rattle.steps.specs.Calls.{Work, taking, editing, Value, editRule, inRange, copyOf, recopy, has, workRule}
+use Rattle.steps.proofs.Chains.{Told, told-ok, told-must, told-find, told-then}
 use Rattle.layout.specs.Sound.{Fine, FineCopy, Distinct, none-twice, first-once, FineTaken}
-use Rattle.keeping.proofs.Parts.{all-stands}
-use Rattle.keeping.proofs.Editing.{edited-fine}
+use Rattle.keeping.proofs.Editing.{edit-fine}
 
 -- ---- another content in the copy of a segment
 pub recopy-copies : (issue n s : ℕ) (c : Content) {ks : List Copy} → Fine issue c → All (FineCopy issue n) ks → All (FineCopy issue n) (recopy s c ks)
@@ -39,7 +40,7 @@ unfolding recopy
 recopy-length s c [] = refl
 recopy-length s c (k ∷ ks) = ap suc (recopy-length s c ks)
 
--- ---- a copy that is found is fine; where none is found, none is there
+-- ---- a copy that is found is fine
 pub copy-fine : (issue n s : ℕ) (ks : List Copy) (c : Content) → All (FineCopy issue n) ks → copyOf s ks ≡ some c → Fine issue c
 unfolding copyOf
 copy-fine issue n s [] c a e = apart cc
@@ -48,15 +49,6 @@ copy-fine issue n s (k ∷ ks) c (all-cons h a) e =
     (λ q g. subst (Fine issue) (some-same g) (h .fine))
     (λ q g. copy-fine issue n s ks c a g)
     e
-
-pub copy-none : (s : ℕ) (ks : List Copy) → copyOf s ks ≡ none → has s ks ≡ false
-unfolding copyOf has
-copy-none s [] e = refl
-copy-none s (k ∷ ks) e = go (eqb s (k .segment)) e (copy-none s ks)
-  where
-    go : (q : Bool) → cond q (some (k .held)) (copyOf s ks) ≡ none → (copyOf s ks ≡ none → has s ks ≡ false) → (q || has s ks) ≡ false
-    go true f g = apart cc
-    go false f g = g f
 
 -- ---- a copy more
 pub append-has : (x : ℕ) (ks : List Copy) (k : Copy) → has x ks ≡ false → (x ≡ k .segment → ⊥) → has x (ks ++ (k ∷ [])) ≡ false
@@ -72,13 +64,11 @@ append-distinct k (first-once {k = q} {ks = ks} e d) h =
     first-once (append-has (q .segment) ks k e (λ z. eqb-false (k .segment) (q .segment) (n .0) (sym z))) (append-distinct k d (n .1))
 
 -- ---- the work of one draft
-module _ (issue n : ℕ) (stale : Bool) where
-  pub takes-fine : (s : ℕ) (c : Content) (ks : List Copy) (full : Bool) → leb 2 (length ks) ≡ full → FineTaken issue n ks stale
-      → FineCopy issue n (record { segment = s; held = c }) → has s ks ≡ false → FineTaken issue n (takes s c ks full .1) stale
-  takes-fine s c ks true e h f g = h
-  takes-fine s c ks false e h f g =
+module _ (issue n s : ℕ) (stale : Bool) (c : Content) (ks : List Copy) (h : FineTaken issue n ks stale) where
+  take-fine : FineCopy issue n (record { segment = s; held = c }) → has s ks ≡ false → length ks < 2
+      → FineTaken issue n (ks ++ (record { segment = s; held = c } ∷ [])) stale
+  take-fine f g l =
       let k : Copy = record { segment = s; held = c } in
-      let l : length ks < 2 = leb-false 2 (length ks) e in
       let a : length (ks ++ (k ∷ [])) ≡ suc (length ks) = length-append ks (k ∷ []) ∙ add-one (length ks) in
       record {
         two = omega arith;
@@ -87,31 +77,23 @@ module _ (issue n : ℕ) (stale : Bool) where
         taken = λ t. omega arith;
       }
 
-  pub works-fine : (s : ℕ) (c : Content) (w : Work) (ks : List Copy) (o : Option Content) → copyOf s ks ≡ o → inRange w ≡ true
-      → FineTaken issue n ks stale → FineCopy issue n (record { segment = s; held = c }) → FineTaken issue n (works issue s c w ks o .1) stale
-  works-fine s c taking ks none e r h f = takes-fine s c ks (leb 2 (length ks)) refl h f (copy-none s ks e)
-  works-fine s c taking ks (some k) e r h f = h
-  works-fine s c (editing d) ks none e r h f = h
-  works-fine s c (editing d) ks (some k) e r h f =
-      let v = edited issue d k .1 in
+  recopy-fine : (v : Content) → Fine issue v → FineTaken issue n (recopy s v ks) stale
+  recopy-fine v f =
       let l : length (recopy s v ks) ≡ length ks = recopy-length s v ks in
       record {
         two = omega (arith, h .two);
-        copies = recopy-copies issue n s v (edited-fine issue d k (copy-fine issue n s ks k (h .copies) e) r) (h .copies);
+        copies = recopy-copies issue n s v f (h .copies);
         distinct = recopy-distinct s v (h .distinct);
         taken = λ t. omega (arith, h .taken t);
       }
 
-module _ (issue s : ℕ) (segments : List Content) (w : Work) (ks : List Copy) (stale : Bool)
-    (f : All (Fine issue) segments) (h : FineTaken issue (length segments) ks stale) where
-  pub ranged-fine : (o : Option Content) (r : Bool) → inRange w ≡ r → at segments s ≡ o → FineTaken issue (length segments) (ranged issue s o w ks r .1) stale
-  ranged-fine o false e g = h
-  ranged-fine none true e g = h
-  ranged-fine (some c) true e g =
-      let a = all-stands segments s c f g in
-      works-fine issue (length segments) stale s c w ks (copyOf s ks) refl e h (record { from = a .from; to = a .to; fine = a .is })
-
-  -- a draft's copies are fine after its work
-  pub work-fine : FineTaken issue (length segments) (work issue s (at segments s) w ks .1) stale
-  unfolding work
-  work-fine = ranged-fine (at segments s) (inRange w) refl refl
+  -- a draft's copies are fine after its work on a segment that is there
+  pub work-fine : (w : Work) → inRange w ≡ true → FineCopy issue n (record { segment = s; held = c })
+      → Told (λ (z : Value × List Copy). FineTaken issue n (z .1) stale) (workRule issue s c w ks)
+  unfolding workRule
+  work-fine taking r f =
+      told-must (not (has s ks)) takenAlready _ (λ t. told-must (ltb (length ks) 2) twoTaken _
+      (λ u. told-ok _ (take-fine f (not-true (has s ks) t) (ltb-true (length ks) 2 u))))
+  work-fine (editing e) r f =
+      told-find (copyOf s ks) notTaken _ (λ k q. told-then (editRule issue e k) _ (edit-fine issue e k (copy-fine issue n s ks k (h .copies) q) r)
+      (λ z g. told-ok _ (recopy-fine (z .1) g)))

@@ -19,5 +19,6 @@ pub mod SoundBack
 pub mod SoundIff
 pub mod Issues
 pub mod Tests
+pub mod Recopied
 pub mod Rules
 pub mod OneToOne

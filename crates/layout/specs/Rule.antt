@@ -1,15 +1,13 @@
 -- The rule of every call on a book's bytes: 1, 12, then what the steps of document 01 say of the book that the bytes hold.
 use Prim.Native.Nat.{ℕ}
 use mathlib.Core.Path.{_≡_}
-use mathlib.Core.Bool.{cond}
 use mathlib.Core.List.{List, [], _∷_}
 use lib.ListN.{length}
 use lib.Dec.{eqb}
 use Rattle.refusal.specs.Numbers.{wrongLength, notSound}
-use Rattle.refusal.specs.Answer.{ok, paperRefusal}
+use Rattle.refusal.specs.Answer.{Answer, ok, must, andThen, paperRefusal}
 use Rattle.blocks.specs.Block.{bookLength}
-use Rattle.steps.specs.Book.{Book}
-use Rattle.steps.specs.Calls.{Call, Answer, refused, step, draft, done, number, was, changed}
+use Rattle.steps.specs.Calls.{Call, Value, BookAnswer, draft, done, number, was, changed, settle, bookRule}
 use Rattle.layout.specs.Layout.{bytesOf, bookOf}
 use Rattle.layout.specs.Tests.{isSound}
 use Rattle.layout.specs.declared.Changed.{Changed}
@@ -17,13 +15,17 @@ use Rattle.layout.specs.declared.Changed.the-variants.{Nothing, One, Two
 use Rattle.layout.specs.declared.Reply.{Reply}
 use Rattle.layout.specs.declared.Reply.the-variants as reply
 
-abbrev pub leaving : Answer × Book → Answer × List ℕ
-leaving r = (r .0, bytesOf (r .1))
+-- "Book calls: 1, 12, .." and then the refusals of the book that the bytes hold; what is left are the bytes of the book that the call leaves
+unfoldable pub bytesRule : List ℕ → Call → Answer (Value × List ℕ)
+bytesRule l c =
+    andThen (must (eqb (length l) bookLength) wrongLength 0) λ _.
+    andThen (must (isSound l) notSound 0) λ _.
+    andThen (bookRule (bookOf l) c) λ r.
+    ok (r .0, bytesOf (r .1))
 
-unfoldable pub onBytes : List ℕ → Call → Answer × List ℕ
-onBytes l c =
-    cond (eqb (length l) bookLength) (cond (isSound l) (leaving (step (bookOf l) c)) (refused notSound, l))
-    (refused wrongLength, l)
+-- what the call answers, and the bytes that it leaves: a refused one leaves those that it was lent
+unfoldable pub onBytes : List ℕ → Call → BookAnswer × List ℕ
+onBytes l c = settle l (bytesRule l c)
 
 -- ---- the code's answers as this paper's
 abbrev pub segmentsOf : Changed → List ℕ
@@ -31,7 +33,7 @@ segmentsOf Nothing = []
 segmentsOf (One a) = a ∷ []
 segmentsOf (Two a b) = a ∷ b ∷ []
 
-abbrev pub paperReply : Reply → Answer
+abbrev pub paperReply : Reply → BookAnswer
 paperReply (reply.Draft d) = ok (draft d)
 paperReply reply.Done = ok done
 paperReply (reply.Number n) = ok (number n)

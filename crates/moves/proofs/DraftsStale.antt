@@ -12,7 +12,7 @@ use Rattle.steps.proofs.Agree.{touches-none}
 use Rattle.laws.proofs.Tests.{by, impossible, apart}
 use Rattle.laws.proofs.Lists.{All, all-nil, all-cons, all-map}
 use Rattle.steps.specs.Book.{Copy, Draft, closed, working, Book}
-use Rattle.steps.specs.Calls.{has, touches, staled, numbers, withDrafts}
+use Rattle.steps.specs.Calls.{has, touches, staled, segmentsNamed, withDrafts}
 use Rattle.layout.specs.Layout.{segmentOf, draftBytes, copiesOf}
 use Rattle.layout.specs.Sound.{FineDraft, working-fine}
 use Rattle.layout.specs.Lies.{Lies}
@@ -131,20 +131,20 @@ MarksOne l m s = (b : Book) → Lies l b → All TwoTaken (b .drafts) → (k : C
 
 abbrev pub Marks : List ℕ → List ℕ → Changed → Type 0
 Marks l m c =
-    (b : Book) → Lies l b → (issue n : ℕ) → All (FineDraft issue n) (b .drafts) → (cs : List Copy) → numbers cs ≡ segmentsOf c
+    (b : Book) → Lies l b → (issue n : ℕ) → All (FineDraft issue n) (b .drafts) → (cs : List Copy) → segmentsNamed cs ≡ segmentsOf c
     → Lies m (withDrafts b (map (staled cs) (b .drafts)))
 
 pub marked-none : (l : List ℕ) (c : Changed) → c ≡ Nothing → Marks l l c
 marked-none l c is b lies issue n fine cs are = none cs (are ∙ ap segmentsOf is)
   where
-    none : (cs : List Copy) → numbers cs ≡ [] → Lies l (withDrafts b (map (staled cs) (b .drafts)))
+    none : (cs : List Copy) → segmentsNamed cs ≡ [] → Lies l (withDrafts b (map (staled cs) (b .drafts)))
     none [] e = subst (λ (ds : List Draft). Lies l (withDrafts b ds)) (sym (staled-nothing (b .drafts))) lies
     none (k ∷ ks) e = apart cc
 
 pub marked-one : (l m : List ℕ) (c : Changed) (s : ℕ) → c ≡ One s → MarksOne l m s → Marks l m c
 marked-one l m c s is marks b lies issue n fine cs are = single cs (are ∙ ap segmentsOf is)
   where
-    single : (cs : List Copy) → numbers cs ≡ s ∷ [] → Lies m (withDrafts b (map (staled cs) (b .drafts)))
+    single : (cs : List Copy) → segmentsNamed cs ≡ s ∷ [] → Lies m (withDrafts b (map (staled cs) (b .drafts)))
     single [] e = apart cc
     single (k ∷ []) e = marks b lies (all-map (few issue n) fine) k (let f : k .segment ≡ s = cc in f)
     single (k ∷ q ∷ ks) e = apart cc
@@ -152,7 +152,7 @@ marked-one l m c s is marks b lies issue n fine cs are = single cs (are ∙ ap s
 pub marked-two : (l l1 m : List ℕ) (c : Changed) (s t : ℕ) → c ≡ Two s t → MarksOne l l1 s → MarksOne l1 m t → Marks l m c
 marked-two l l1 m c s t is marks marks2 b lies issue n fine cs are = double cs (are ∙ ap segmentsOf is)
   where
-    double : (cs : List Copy) → numbers cs ≡ s ∷ t ∷ [] → Lies m (withDrafts b (map (staled cs) (b .drafts)))
+    double : (cs : List Copy) → segmentsNamed cs ≡ s ∷ t ∷ [] → Lies m (withDrafts b (map (staled cs) (b .drafts)))
     double [] e = apart cc
     double (k ∷ []) e = apart cc
     double (k ∷ q ∷ []) e =

@@ -15,7 +15,7 @@ use Rattle.codes.specs.Block.{Content}
 use Rattle.blocks.specs.Block.{bookLength, blockOf, putBlock}
 use Rattle.blocks.specs.Content.{holding}
 use Rattle.steps.specs.Book.{Copy, History, Book}
-use Rattle.steps.specs.Calls.{numbers, oldOf, latest, remember}
+use Rattle.steps.specs.Calls.{segmentsNamed, oldOf, latest, remember}
 use Rattle.layout.specs.Layout.{segmentOf, heldOf}
 use Rattle.layout.specs.Lies.{Lies}
 use Rattle.layout.specs.Rule.{segmentsOf}
@@ -214,34 +214,34 @@ remember-is old f k ks = ap (λ (z : List (List Copy)). record { kept = z }) (la
 -- what pushing a step promises of bytes l before and m after
 abbrev pub Pushes : List ℕ → List ℕ → Changed → Type 0
 Pushes l m c =
-    (b : Book) → Lies l b → (cs : List Copy) → numbers cs ≡ segmentsOf c → Among (length (b .segments)) c
+    (b : Book) → Lies l b → (cs : List Copy) → segmentsNamed cs ≡ segmentsOf c → Among (length (b .segments)) c
     → Lies m (withHistory b (remember (map (oldOf (b .segments)) cs) (b .history)))
 
 pub pushed-none : (l : List ℕ) (c : Changed) → c ≡ Nothing → Pushes l l c
 pushed-none l c is b lies cs are among = nothing cs (are ∙ ap segmentsOf is)
   where
-    nothing : (cs : List Copy) → numbers cs ≡ [] → Lies l (withHistory b (remember (map (oldOf (b .segments)) cs) (b .history)))
+    nothing : (cs : List Copy) → segmentsNamed cs ≡ [] → Lies l (withHistory b (remember (map (oldOf (b .segments)) cs) (b .history)))
     nothing [] e = lies
     nothing (k ∷ ks) e = apart cc
 
 -- room was made, and these copies appended
-pushed : (b : Book) (m : List ℕ) (cs : List Copy) (s : ℕ) (ss : List ℕ) → numbers cs ≡ s ∷ ss
+pushed : (b : Book) (m : List ℕ) (cs : List Copy) (s : ℕ) (ss : List ℕ) → segmentsNamed cs ≡ s ∷ ss
     → Lies m (withKept b (lastFifteen (b .history .kept) ++ (map (oldOf (b .segments)) cs ∷ []))) → Lies m (withHistory b (remember (map (oldOf (b .segments)) cs) (b .history)))
 pushed b m [] s ss e lies = apart cc
 pushed b m (k ∷ ks) s ss e lies = subst (λ (z : History). Lies m (withHistory b z)) (remember-is (b .history) (oldOf (b .segments)) k ks) lies
 
 pub pushed-one : (l l1 m : List ℕ) (c : Changed) (s : ℕ) → c ≡ One s → MakesRoom l l1
-    → ((b : Book) → Lies l1 b → (cs : List Copy) → numbers cs ≡ s ∷ [] → s ≤ length (b .segments)
+    → ((b : Book) → Lies l1 b → (cs : List Copy) → segmentsNamed cs ≡ s ∷ [] → s ≤ length (b .segments)
     → Lies m (withKept b (b .history .kept ++ (map (oldOf (b .segments)) cs ∷ []))))
     → Pushes l m c
 pushed-one l l1 m c s is room appends b lies cs are among =
-    let e : numbers cs ≡ s ∷ [] = are ∙ ap segmentsOf is in
+    let e : segmentsNamed cs ≡ s ∷ [] = are ∙ ap segmentsOf is in
     pushed b m cs s [] e (appends (withKept b (lastFifteen (b .history .kept))) (room b lies) cs e (one-to among is))
 
 pub pushed-two : (l l1 m : List ℕ) (c : Changed) (s t : ℕ) → c ≡ Two s t → MakesRoom l l1
-    → ((b : Book) → Lies l1 b → (cs : List Copy) → numbers cs ≡ s ∷ t ∷ [] → s ≤ length (b .segments) → t ≤ length (b .segments)
+    → ((b : Book) → Lies l1 b → (cs : List Copy) → segmentsNamed cs ≡ s ∷ t ∷ [] → s ≤ length (b .segments) → t ≤ length (b .segments)
     → Lies m (withKept b (b .history .kept ++ (map (oldOf (b .segments)) cs ∷ []))))
     → Pushes l m c
 pushed-two l l1 m c s t is room appends b lies cs are among =
-    let e : numbers cs ≡ s ∷ t ∷ [] = are ∙ ap segmentsOf is in
+    let e : segmentsNamed cs ≡ s ∷ t ∷ [] = are ∙ ap segmentsOf is in
     pushed b m cs s (t ∷ []) e (appends (withKept b (lastFifteen (b .history .kept))) (room b lies) cs e (first-to among is) (second-to among is))

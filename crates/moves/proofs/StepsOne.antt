@@ -17,7 +17,7 @@ use Rattle.blocks.specs.Block.{blockOf, putBlock}
 use Rattle.blocks.specs.Content.{holding}
 use Rattle.steps.specs.Book.{Copy, Book, at}
 use Rattle.layout.specs.Layout.{segmentOf, heldOf, orNone}
-use Rattle.steps.specs.Calls.{older, numbers, oldOf, orElse}
+use Rattle.steps.specs.Calls.{older, segmentsNamed, oldOf, orElse}
 use Rattle.layout.specs.Lies.{Lies}
 use Rattle.moves.specs.Undo.{withKept}
 use Rattle.moves.proofs.StepsStands.{Stands, upd, upd-other, upd-at, stands-set, stands-clear, stands-over, stands-same}
@@ -66,7 +66,7 @@ popped l b r e lies one =
 
 -- ---- a step is appended
 -- the segments of a step's old contents
-old-segment : (segments : List Content) (cs : List Copy) (j : ℕ) → getD (numbers cs) j 0 ≡ segmentOf (getElem? (map (oldOf segments) cs) j)
+old-segment : (segments : List Content) (cs : List Copy) (j : ℕ) → getD (segmentsNamed cs) j 0 ≡ segmentOf (getElem? (map (oldOf segments) cs) j)
 old-segment segments [] j = refl
 old-segment segments (c ∷ cs) zero = refl
 old-segment segments (c ∷ cs) (suc j) = old-segment segments cs j
@@ -79,7 +79,7 @@ at-there segments (suc k) c h g =
     let f : getElem? segments k ≡ some (getD segments k c) = get-some c segments k (omega arith) in
     ap (getElem? segments) e ∙ f ∙ ap (λ (o : Option Content). some (orElse o c)) (sym f)
 
-old-held : (segments : List Content) (cs : List Copy) (j s : ℕ) → getElem? (numbers cs) j ≡ some s → 1 ≤ s → s ≤ length segments
+old-held : (segments : List Content) (cs : List Copy) (j s : ℕ) → getElem? (segmentsNamed cs) j ≡ some s → 1 ≤ s → s ≤ length segments
     → getElem? segments (s - 1) ≡ heldOf (getElem? (map (oldOf segments) cs) j)
 old-held segments [] j s e h g = apart cc
 old-held segments (c ∷ cs) zero s e h g =
@@ -87,13 +87,13 @@ old-held segments (c ∷ cs) zero s e h g =
     at-there segments s (c .held) h g ∙ ap (λ (n : ℕ). some (orElse (at segments n) (c .held))) (sym f)
 old-held segments (c ∷ cs) (suc j) s e h g = old-held segments cs j s e h g
 
-old-none : (segments : List Content) (cs : List Copy) (j : ℕ) → getElem? (numbers cs) j ≡ none → none ≡ heldOf (getElem? (map (oldOf segments) cs) j)
+old-none : (segments : List Content) (cs : List Copy) (j : ℕ) → getElem? (segmentsNamed cs) j ≡ none → none ≡ heldOf (getElem? (map (oldOf segments) cs) j)
 old-none segments [] j e = refl
 old-none segments (c ∷ cs) zero e = apart cc
 old-none segments (c ∷ cs) (suc j) e = old-none segments cs j e
 
 module _ (l : List ℕ) (b : Book) (n first second : ℕ) (count : n ≡ getD l 24 0) (few : n ≤ 15) (lies : Lies l b)
-    (cs : List Copy) (are : numbers cs ≡ named first second)
+    (cs : List Copy) (are : segmentsNamed cs ≡ named first second)
     (one : 1 ≤ first) (eight : first ≤ 8) (eight2 : second ≤ 8) (there : first ≤ length (b .segments)) (there2 : second ≤ length (b .segments)) where
   -- the steps after it, and the bytes once the first block is copied
   steps : List (List Copy)
@@ -200,7 +200,7 @@ module _ (l : List ℕ) (n : ℕ) (count : n ≡ getD l 24 0) (few : getD l 24 0
 
   pub append-one-done : (m : List ℕ) (s : ℕ) → 1 ≤ s → s ≤ 8
       → m ≡ putBlock (17 + 2 * n) (blockOf s (set (set l 24 (n + 1)) (32 + 2 * n) s)) (set (set l 24 (n + 1)) (32 + 2 * n) s)
-      → (b : Book) → Lies l b → (cs : List Copy) → numbers cs ≡ s ∷ [] → s ≤ length (b .segments)
+      → (b : Book) → Lies l b → (cs : List Copy) → segmentsNamed cs ≡ s ∷ [] → s ≤ length (b .segments)
       → Lies m (withKept b (b .history .kept ++ (map (oldOf (b .segments)) cs ∷ [])))
   append-one-done m s one eight e b lies cs are there =
       subst (λ (q : List ℕ). Lies q (withKept b (b .history .kept ++ (map (oldOf (b .segments)) cs ∷ []))))
@@ -209,7 +209,7 @@ module _ (l : List ℕ) (n : ℕ) (count : n ≡ getD l 24 0) (few : getD l 24 0
 
   pub append-two-done : (m1 m : List ℕ) (s t : ℕ) → 1 ≤ s → s ≤ 8 → 1 ≤ t → t ≤ 8
       → m1 ≡ putBlock (17 + 2 * n) (blockOf s (noted l n (n + 1) s t)) (noted l n (n + 1) s t) → m ≡ putBlock (18 + 2 * n) (blockOf t m1) m1
-      → (b : Book) → Lies l b → (cs : List Copy) → numbers cs ≡ s ∷ t ∷ [] → s ≤ length (b .segments) → t ≤ length (b .segments)
+      → (b : Book) → Lies l b → (cs : List Copy) → segmentsNamed cs ≡ s ∷ t ∷ [] → s ≤ length (b .segments) → t ≤ length (b .segments)
       → Lies m (withKept b (b .history .kept ++ (map (oldOf (b .segments)) cs ∷ [])))
   append-two-done m1 m s t one eight one2 eight2 e1 e2 b lies cs are there there2 =
       let some-t : t ≢ 0 = λ z. omega arith in

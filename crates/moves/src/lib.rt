@@ -10,7 +10,7 @@ ghost use Rattle.laws.proofs.Lists.{All};
 ghost use Rattle.codes.specs.Block.{Content};
 ghost use Rattle.blocks.specs.Block.{bookLength};
 ghost use Rattle.steps.specs.Book.{Copy, closed, working, Book, at, put, draftAt};
-ghost use Rattle.steps.specs.Calls.{withDrafts, staled, numbers, stepsMost, oldOf, older, remember};
+ghost use Rattle.steps.specs.Calls.{withDrafts, staled, segmentsNamed, stepsMost, oldOf, older, remember};
 ghost use Rattle.layout.specs.Layout.{bytesOf, partOf, heldIn};
 ghost use Rattle.layout.specs.Sound.{FineDraft};
 ghost use Rattle.layout.specs.Lies.{Lies};
@@ -91,7 +91,7 @@ fn mark_drafts(book: &mut [u8], s: usize)
 // Marks the drafts stale that have taken one of some segments.
 pub fn mark_stale(book: &mut [u8], segments: Changed)
     requires { ⌜ (length (now book) ≡ bookLength) × Among 8 segments ⌝ }
-    ensures { λ _. ⌜ ((b : Book) → Lies (now (book .entry)) b → (issue n : ℕ) → All (FineDraft issue n) (b .drafts) → (cs : List Copy) → numbers cs ≡ segmentsOf segments → Lies (now (book .exit)) (withDrafts b (map (staled cs) (b .drafts)))) ⌝ }
+    ensures { λ _. ⌜ ((b : Book) → Lies (now (book .entry)) b → (issue n : ℕ) → All (FineDraft issue n) (b .drafts) → (cs : List Copy) → segmentsNamed cs ≡ segmentsOf segments → Lies (now (book .exit)) (withDrafts b (map (staled cs) (b .drafts)))) ⌝ }
 {
     match segments {
         Changed::Nothing => {}
@@ -130,7 +130,7 @@ pub fn pop_step(book: &mut [u8])
 // Appends a step of one segment, with what it holds.
 fn append_one(book: &mut [u8], s: usize)
     requires { ⌜ (length (now book) ≡ bookLength) × (getD (now book) 24 0 ≤ 15) × (1 ≤ s) × (s ≤ 8) ⌝ }
-    ensures { λ _. ⌜ ((b : Book) → Lies (now (book .entry)) b → (cs : List Copy) → numbers cs ≡ s ∷ [] → s ≤ length (b .segments) → Lies (now (book .exit)) (withKept b (b .history .kept ++ (map (oldOf (b .segments)) cs ∷ [])))) ⌝ }
+    ensures { λ _. ⌜ ((b : Book) → Lies (now (book .entry)) b → (cs : List Copy) → segmentsNamed cs ≡ s ∷ [] → s ≤ length (b .segments) → Lies (now (book .exit)) (withKept b (b .history .kept ++ (map (oldOf (b .segments)) cs ∷ [])))) ⌝ }
 {
     let n = blocks::size(book[24]);
     book[24] = (n + 1) as u8;
@@ -141,7 +141,7 @@ fn append_one(book: &mut [u8], s: usize)
 // Appends a step of two segments, with what they hold.
 fn append_two(book: &mut [u8], s: usize, t: usize)
     requires { ⌜ (length (now book) ≡ bookLength) × (getD (now book) 24 0 ≤ 15) × (1 ≤ s) × (s ≤ 8) × (1 ≤ t) × (t ≤ 8) ⌝ }
-    ensures { λ _. ⌜ ((b : Book) → Lies (now (book .entry)) b → (cs : List Copy) → numbers cs ≡ s ∷ t ∷ [] → s ≤ length (b .segments) → t ≤ length (b .segments) → Lies (now (book .exit)) (withKept b (b .history .kept ++ (map (oldOf (b .segments)) cs ∷ [])))) ⌝ }
+    ensures { λ _. ⌜ ((b : Book) → Lies (now (book .entry)) b → (cs : List Copy) → segmentsNamed cs ≡ s ∷ t ∷ [] → s ≤ length (b .segments) → t ≤ length (b .segments) → Lies (now (book .exit)) (withKept b (b .history .kept ++ (map (oldOf (b .segments)) cs ∷ [])))) ⌝ }
 {
     let n = blocks::size(book[24]);
     book[24] = (n + 1) as u8;
@@ -186,7 +186,7 @@ fn make_room(book: &mut [u8])
 // Makes what some segments hold the newest step; where there are none, nothing is done.
 pub fn push_step(book: &mut [u8], segments: Changed)
     requires { ⌜ (length (now book) ≡ bookLength) × (getD (now book) 24 0 ≤ stepsMost) × Among 8 segments ⌝ }
-    ensures { λ _. ⌜ ((b : Book) → Lies (now (book .entry)) b → (cs : List Copy) → numbers cs ≡ segmentsOf segments → Among (length (b .segments)) segments → Lies (now (book .exit)) (withHistory b (remember (map (oldOf (b .segments)) cs) (b .history)))) ⌝ }
+    ensures { λ _. ⌜ ((b : Book) → Lies (now (book .entry)) b → (cs : List Copy) → segmentsNamed cs ≡ segmentsOf segments → Among (length (b .segments)) segments → Lies (now (book .exit)) (withHistory b (remember (map (oldOf (b .segments)) cs) (b .history)))) ⌝ }
 {
     match segments {
         Changed::Nothing => {}

@@ -105,9 +105,9 @@ spelled-low (a ∷ b ∷ c ∷ []) h = omega arith
 spelled-low (a ∷ b ∷ c ∷ d ∷ bs) h = impossible (omega arith)
 
 -- the segments that a commit or an undo names, two at most
-pub segments-kept : (bs : List ℕ) → All Byte bs → length bs ≤ 2 → Kept valueBits segmentsIn (ok (changed bs))
+pub segments-back : (bs : List ℕ) → All Byte bs → length bs ≤ 2 → Returns valueBits segmentsIn (changed bs)
 unfolding valueBits
-segments-kept bs a two = kept-ok (changed bs) (omega (arith, spelled-low bs (omega arith))) (ap changed (unspelled-spelled namedMost bs a (omega arith)))
+segments-back bs a two = record { low = omega (arith, spelled-low bs (omega arith)); same = ap changed (unspelled-spelled namedMost bs a (omega arith)) }
 
 -- ---- a view
 pub view-low : (v : View) → viewBits v < restEnd

@@ -51,7 +51,7 @@ valueBits (number n) = n
 valueBits (was there) = bit there
 valueBits (changed segments) = spelled segments
 
-abbrev pub packed : calls.Answer → ℕ
+abbrev pub packed : calls.BookAnswer → ℕ
 packed = pack valueBits
 
 -- what a value is depends on the call
@@ -81,7 +81,7 @@ valueOf (commit d) r = segmentsIn r
 valueOf (calls.drop d) r = done
 valueOf undo r = segmentsIn r
 
-abbrev pub unpacked : Call → ℕ → calls.Answer
+abbrev pub unpacked : Call → ℕ → calls.BookAnswer
 unpacked c = unpack (valueOf c)
 
 -- no value at all

@@ -28,14 +28,13 @@ use Rattle.bulletin.specs.declared.Head.{Head}
 use Rattle.bulletin.specs.declared.Reading.the-variants as reading
 use Rattle.bulletin.specs.declared.Bulletin.{Bulletin}
 use Rattle.steps.specs.Book.{at}
-use Rattle.steps.specs.Calls.{placeAt}
 use Rattle.layout.specs.Rule.{paperReply}
 use Rattle.layout.specs.declared.Reply.{Reply}
 use Rattle.layout.specs.declared.Reply.the-variants as reply
 use Rattle.making.specs.Make.{orNoSegment}
 use Rattle.making.proofs.Made.{contents-read}
 use Rattle.making.proofs.Making.{Told, told-by, refused-by}
-use Rattle.plugin.specs.Rules.{contentsOf, placeAnswer, placeIn}
+use Rattle.plugin.specs.Rules.{contentsOf, placeAnswer, placeIn, placeAt}
 
 -- an element of a list, and none past its end
 pub at-some : (l : List ℕ) (i d : ℕ) → i < length l → getElem? l i ≡ some (getD l i d)

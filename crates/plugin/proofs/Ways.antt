@@ -7,7 +7,7 @@ use Rattle.refusal.specs.Answer.{paperVerdict}
 use Rattle.refusal.specs.declared.Verdict.{Verdict}
 use Rattle.writing.specs.Write.{writeRule, lengthOf, outputOf, paperWritten, Writes}
 use Rattle.writing.specs.declared.Written.{Written}
-use Rattle.steps.specs.Calls.{Call, Answer}
+use Rattle.steps.specs.Calls.{Call, BookAnswer}
 use Rattle.layout.specs.Rule.{onBytes, paperReply, Does}
 use Rattle.layout.specs.declared.Reply.{Reply}
 use Rattle.making.specs.Make.{makeRule, madeAnswer, madeBytes, Makes, writeOn, WritesOn}
@@ -20,7 +20,7 @@ module _ (l m : List ℕ) (c : Call) (x : Reply) (r : ℕ) where
 pub does-left : (l m : List ℕ) (c : Call) (x : Reply) → Does l m c x → m ≡ onBytes l c .1
 does-left l m c x d = d .left
 
-pub says-packed : (x : Reply) (a : Answer) (r : ℕ) → paperReply x ≡ a → r ≡ packed (paperReply x) → r ≡ packed a
+pub says-packed : (x : Reply) (a : BookAnswer) (r : ℕ) → paperReply x ≡ a → r ≡ packed (paperReply x) → r ≡ packed a
 says-packed x a r q e = e ∙ ap packed q
 
 module _ (l m text : List ℕ) (year month : ℕ) (v : Verdict) (d : Makes l m text year month v) where

@@ -1,12 +1,13 @@
 -- What the reader's functions answer of a bulletin, and of one of its segments.
 use Prim.Native.Nat.{ℕ}
 use mathlib.Core.List.{List, map}
+use mathlib.Core.Option.{Option, none, some}
 use lib.ListN.{length, getElem?}
-use Rattle.refusal.specs.Answer.{Answer, ok, no, andThen}
+use Rattle.refusal.specs.Numbers.{outOfRange}
+use Rattle.refusal.specs.Answer.{Answer, ok, no, refused, andThen}
 use Rattle.codes.specs.Block.{Content}
 use Rattle.steps.specs.Book.{at}
 use Rattle.steps.specs.Calls as calls
-use Rattle.steps.specs.Calls.{placeAt}
 use Rattle.bulletin.specs.Bulletin.{Bulletin, readBulletin}
 use Rattle.bulletin.specs.Segments as segments
 use Rattle.bulletin.specs.Report.{Report}
@@ -47,11 +48,15 @@ countOf g = g .count
 abbrev pub contentsOf : Bulletin → List Content
 contentsOf b = map (λ (g : segments.Segment). g .content) (b .segments)
 
-abbrev pub placeAnswer : ℕ → Answer Content → calls.Answer
+abbrev pub placeAt : Option ℕ → calls.BookAnswer
+placeAt none = refused outOfRange 0
+placeAt (some p) = ok (calls.number p)
+
+abbrev pub placeAnswer : ℕ → Answer Content → calls.BookAnswer
 placeAnswer i (ok c) = placeAt (getElem? (c .places) i)
 placeAnswer i (no reason place) = no reason place
 
-unfoldable pub placeIn : List ℕ → ℕ → ℕ → ℕ → ℕ → calls.Answer
+unfoldable pub placeIn : List ℕ → ℕ → ℕ → ℕ → ℕ → calls.BookAnswer
 placeIn text year month n i =
     andThen (readBulletin text year month) λ b.
     placeAnswer i (orNoSegment (at (contentsOf b) n))

@@ -3,43 +3,52 @@ use Prim.Native.Nat.{ℕ, zero, suc, _+_, _-_, _*_, _/_, _%_, _≤_, _<_}
 use native.Mathlib.Omega.{arith}
 use mathlib.Core.Path.{_≡_, refl, sym, _∙_, ap}
 use mathlib.Core.List.{List, [], _∷_, _++_}
-use lib.ListN.{length, getD, List·getD-append}
-use borrow.Author.Tests.{eq-eqb}
+use lib.ListN.{getD, List·getD-append}
 use Rattle.laws.proofs.Tests.{by-order}
 use Rattle.laws.proofs.Lists.{all-nil, all-cons}
+use Rattle.refusal.specs.Answer.{Answer, ok, no, andThen}
 use Rattle.codes.specs.Block.{Content}
-use Rattle.blocks.specs.Block.{bookLength, flat, blockOf}
+use Rattle.blocks.specs.Block.{flat, blockOf}
 use Rattle.blocks.proofs.Seals.{sealed-at}
 use Rattle.steps.specs.Book.{Book, newBook}
-use Rattle.steps.specs.Calls.{Call, step}
+use Rattle.steps.specs.Calls.{Call, Value, settle, bookRule, step}
 use Rattle.layout.specs.Layout.{draftBytes, front, back, indexBytes, blockBytes, bytesOf}
 use Rattle.layout.specs.Sound.{closed-fine, Sound}
-use Rattle.layout.specs.Rule.{leaving, onBytes}
+use Rattle.layout.specs.Rule.{onBytes}
 use Rattle.layout.proofs.ForthIndex.{index-steps, index-mid, index-step}
 use Rattle.layout.proofs.ForthBlocks.{bytes-length, block-at}
 use Rattle.layout.proofs.ForthParts.{sound-wide, bytes-lie}
 use Rattle.layout.proofs.ForthLies.{lies-segment, lies-before}
 use Rattle.layout.proofs.Forth.{book-bytes}
 use Rattle.layout.proofs.ForthSound.{bytes-sound}
+use Rattle.layout.proofs.Rules.{inBook, inBytes, rule-sound}
 use Rattle.keeping.proofs.Keeping.{step-sound}
-use Rattle.steps.specs.Serial.{Event, run, calls, kept}
+use Rattle.steps.specs.Serial.{Event, runCalls, calls, keptOf}
 use Rattle.serial.specs.Bytewise.{runBytes, rerunBytes, WholeBytes}
 use Rattle.steps.proofs.Whole.{alone, whole-run}
 
 -- ---- calls on the bytes of a sound book
 -- one call
-step-bytes : (b : Book) → Sound b → (c : Call) → onBytes (bytesOf b) c ≡ leaving (step b c)
-unfolding onBytes
-step-bytes b h c = rw (eq-eqb (length (bytesOf b)) bookLength (bytes-length b (sound-wide b h)), bytes-sound b h, book-bytes b h)
+left-bytes : (b : Book) (r : Answer (Value × Book)) → settle (bytesOf b) (inBytes r) ≡ (settle b r .0, bytesOf (settle b r .1))
+unfolding inBytes inBook andThen
+left-bytes b (ok z) = refl
+left-bytes b (no n p) = refl
+
+step-bytes : (b : Book) → Sound b → (c : Call) → onBytes (bytesOf b) c ≡ (step b c .0, bytesOf (step b c .1))
+unfolding onBytes step
+step-bytes b h c =
+    ap (settle (bytesOf b)) (rule-sound (bytesOf b) c (bytes-length b (sound-wide b h)) (bytes-sound b h)
+    ∙ ap (λ (x : Book). inBytes (bookRule x c)) (book-bytes b h))
+    ∙ left-bytes b (bookRule b c)
 
 -- all of them
-pub run-bytes : (cs : List Call) (b : Book) → Sound b → runBytes (bytesOf b) cs ≡ (run b cs .0, bytesOf (run b cs .1))
-unfolding runBytes run
+pub run-bytes : (cs : List Call) (b : Book) → Sound b → runBytes (bytesOf b) cs ≡ (runCalls b cs .0, bytesOf (runCalls b cs .1))
+unfolding runBytes runCalls
 run-bytes [] b h = refl
 run-bytes (c ∷ cs) b h = rw (step-bytes b h c, run-bytes cs (step b c .1) (step-sound b c h))
 
-pub run-sound : (cs : List Call) (b : Book) → Sound b → Sound (run b cs .1)
-unfolding run
+pub run-sound : (cs : List Call) (b : Book) → Sound b → Sound (runCalls b cs .1)
+unfolding runCalls
 run-sound [] b h = h
 run-sound (c ∷ cs) b h = run-sound cs (step b c .1) (step-sound b c h)
 
@@ -117,24 +126,31 @@ module _ (b : Book) (sound : Sound b) where
 -- the kept calls get the kept answers, and leave the bytes of the book that the history left, with every draft closed
 pub whole-run-bytes : (issue : ℕ) (segments : List Content) → Sound (newBook issue segments) → (h : List Call) →
     rerunBytes (bytesOf (newBook issue segments)) h
-    ≡ (kept (run (newBook issue segments) h .0), bytesOf (alone (run (newBook issue segments) h .1)))
+    ≡ (keptOf (runCalls (newBook issue segments) h .0), bytesOf (alone (runCalls (newBook issue segments) h .1)))
 whole-run-bytes issue segments sound h =
     rw (run-bytes h (newBook issue segments) sound)
-    (run-bytes (calls (kept (run (newBook issue segments) h .0))) (newBook issue segments) sound
+    (run-bytes (calls (keptOf (runCalls (newBook issue segments) h .0))) (newBook issue segments) sound
     ∙ ap (λ (x : List Event × Book). (x .0, bytesOf (x .1))) (whole-run issue segments h))
+
+-- of what a run gives: a byte of block 0, and a block
+abbrev indexByte : ℕ → List Event × List ℕ → ℕ
+indexByte i x = getD (blockOf 0 (x .1)) i 0
+
+abbrev blockAt : ℕ → List Event × List ℕ → List ℕ
+blockAt k x = blockOf k (x .1)
 
 pub whole-bytes : (issue : ℕ) (segments : List Content) → Sound (newBook issue segments) → (h : List Call) →
     WholeBytes (bytesOf (newBook issue segments)) h
 whole-bytes issue segments sound h =
     let b : Book = newBook issue segments in
-    let last : Book = run b h .1 in
+    let last : Book = runCalls b h .1 in
     let good : Sound last = run-sound h b sound in
-    let e : runBytes (bytesOf b) h ≡ (run b h .0, bytesOf last) = run-bytes h b sound in
-    let f : rerunBytes (bytesOf b) h ≡ (kept (run b h .0), bytesOf (alone last)) = whole-run-bytes issue segments sound h in
+    let e : runBytes (bytesOf b) h ≡ (runCalls b h .0, bytesOf last) = run-bytes h b sound in
+    let f : rerunBytes (bytesOf b) h ≡ (keptOf (runCalls b h .0), bytesOf (alone last)) = whole-run-bytes issue segments sound h in
     record {
-      answers = ap (λ (x : List Event × List ℕ). x .0) f ∙ sym (ap (λ (x : List Event × List ℕ). kept (x .0)) e);
-      front = λ i p. ap (λ (x : List Event × List ℕ). getD (blockOf 0 (x .1)) i 0) f ∙ same-front last good i p ∙ sym (ap (λ (x : List Event × List ℕ). getD (blockOf 0 (x .1)) i 0) e);
-      segments = λ k p q. ap (λ (x : List Event × List ℕ). blockOf k (x .1)) f ∙ same-segments last good k p q ∙ sym (ap (λ (x : List Event × List ℕ). blockOf k (x .1)) e);
-      index = λ i p q. ap (λ (x : List Event × List ℕ). getD (blockOf 0 (x .1)) i 0) f ∙ same-index last good i p q ∙ sym (ap (λ (x : List Event × List ℕ). getD (blockOf 0 (x .1)) i 0) e);
-      steps = λ k p q. ap (λ (x : List Event × List ℕ). blockOf k (x .1)) f ∙ same-steps last good k p q ∙ sym (ap (λ (x : List Event × List ℕ). blockOf k (x .1)) e);
+      answers = ap (λ (x : List Event × List ℕ). x .0) f ∙ sym (ap (λ (x : List Event × List ℕ). keptOf (x .0)) e);
+      front = λ i p. ap (indexByte i) f ∙ same-front last good i p ∙ sym (ap (indexByte i) e);
+      segments = λ k p q. ap (blockAt k) f ∙ same-segments last good k p q ∙ sym (ap (blockAt k) e);
+      index = λ i p q. ap (indexByte i) f ∙ same-index last good i p q ∙ sym (ap (indexByte i) e);
+      steps = λ k p q. ap (blockAt k) f ∙ same-steps last good k p q ∙ sym (ap (blockAt k) e);
     }

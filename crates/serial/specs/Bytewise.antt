@@ -6,7 +6,7 @@ use lib.ListN.{getD}
 use Rattle.blocks.specs.Block.{blockOf}
 use Rattle.steps.specs.Calls.{Call}
 use Rattle.layout.specs.Rule.{onBytes}
-use Rattle.steps.specs.Serial.{Event, calls, kept}
+use Rattle.steps.specs.Serial.{Event, calls, keptOf}
 
 -- calls by the rule of every call on bytes, "each on the book as the call before left it"
 unfoldable pub runBytes : List ℕ → List Call → List Event × List ℕ
@@ -18,11 +18,11 @@ runBytes l (c ∷ cs) = (
 
 -- the kept calls of the history h, run on the bytes on which h ran
 abbrev pub rerunBytes : List ℕ → List Call → List Event × List ℕ
-rerunBytes l h = runBytes l (calls (kept (runBytes l h .0)))
+rerunBytes l h = runBytes l (calls (keptOf (runBytes l h .0)))
 
 pub record WholeBytes (l : List ℕ) (h : List Call) : Type 0 where
   -- "and so does every answer those drafts and undos got"
-  pub answers : rerunBytes l h .0 ≡ kept (runBytes l h .0)
+  pub answers : rerunBytes l h .0 ≡ keptOf (runBytes l h .0)
   -- "The segments": the issue minute and the segment count in block 0, and blocks 1..8
   pub front : (i : ℕ) → i < 8 → getD (blockOf 0 (rerunBytes l h .1)) i 0 ≡ getD (blockOf 0 (runBytes l h .1)) i 0
   pub segments : (k : ℕ) → 1 ≤ k → k ≤ 8 → blockOf k (rerunBytes l h .1) ≡ blockOf k (runBytes l h .1)

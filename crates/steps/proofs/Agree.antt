@@ -1,17 +1,19 @@
 -- What a draft's work depends on: the segments that it took, and which segments exist. Assumes nothing.
 use Prim.Native.Nat.{ℕ}
 use mathlib.Core.Path.{_≡_, refl, sym, _∙_, ap}
-use mathlib.Core.Bool.{Bool, true, false, _||_, or-true, true≢false}
+use mathlib.Core.Bool.{Bool, true, false, not, cond, _||_, or-true, true≢false}
 use mathlib.Core.List.{List, [], _∷_, _++_}
 use mathlib.Core.Option.{Option, none, some}
-use lib.Dec.{eqb, leb}
+use lib.Dec.{eqb, ltb}
 use lib.ListN.{length}
 use borrow.Author.Tests.{eq-eqb, ne-eqb}
 use Rattle.laws.proofs.Lookups.{some-same}
-use Rattle.laws.proofs.Tests.{or-no}
+use Rattle.laws.proofs.Tests.{apart, or-no}
+use Rattle.refusal.specs.Numbers.{noSuchSegment, notTaken, takenAlready, twoTaken, outOfRange}
+use Rattle.refusal.specs.Answer.{Answer, ok, no, must, andThen}
 use Rattle.codes.specs.Block.{Content}
-use Rattle.steps.specs.Book.{Copy, Draft, closed, working, at}
-use Rattle.steps.specs.Calls.{Work, taking, editing, inRange, copyOf, recopy, takes, works, ranged, work, has, touches, staled, stored}
+use Rattle.steps.specs.Book.{Copy, Draft, closed, working, Book, at, put, draftAt}
+use Rattle.steps.specs.Calls.{Work, taking, editing, on, Value, done, mustFind, settle, editRule, inRange, copyOf, recopy, has, workRule, touches, staled, stored, withDrafts, bookRule}
 use Rattle.steps.proofs.Table.{isSome, at-put-other, at-put-some}
 
 -- two lists of segments have the same numbers, and the same content at what the copies ks were taken from
@@ -45,58 +47,120 @@ unfolding has recopy
 has-recopy x s c [] = refl
 has-recopy x s c (k ∷ ks) = ap (λ (r : Bool). eqb x (k .segment) || r) (has-recopy x s c ks)
 
-works-has : (i s : ℕ) (c : Content) (w : Work) (ks : List Copy) (o : Option Content) (x : ℕ) → has x ks ≡ true → has x (works i s c w ks o .1) ≡ true
-works-has i s c taking ks none x h = go (leb 2 (length ks))
+-- where no copy is found, none is there
+pub copy-none : (s : ℕ) (ks : List Copy) → copyOf s ks ≡ none → has s ks ≡ false
+unfolding copyOf has
+copy-none s [] e = refl
+copy-none s (k ∷ ks) e = go (eqb s (k .segment)) e (copy-none s ks)
   where
-    go : (b : Bool) → has x (takes s c ks b .1) ≡ true
-    go true = h
-    go false = has-append x ks _ h
-works-has i s c taking ks (some k) x h = h
-works-has i s c (editing e) ks none x h = h
-works-has i s c (editing e) ks (some k) x h = has-recopy x s _ ks ∙ h
+    go : (q : Bool) → cond q (some (k .held)) (copyOf s ks) ≡ none → (copyOf s ks ≡ none → has s ks ≡ false) → (q || has s ks) ≡ false
+    go true f g = apart cc
+    go false f g = g f
 
-ranged-has : (i s : ℕ) (o : Option Content) (w : Work) (ks : List Copy) (r : Bool) (x : ℕ) → has x ks ≡ true → has x (ranged i s o w ks r .1) ≡ true
-ranged-has i s o w ks false x h = h
-ranged-has i s none w ks true x h = h
-ranged-has i s (some c) w ks true x h = works-has i s c w ks (copyOf s ks) x h
+-- Work on the copies alone: 24, 15, then the work's own. `held` is what the segment holds in the book, if it is there.
+abbrev ranged : ℕ → ℕ → Option Content → Work → List Copy → Bool → Answer (Value × List Copy)
+ranged i s held w ks r = andThen (must r outOfRange 0) λ _. andThen (mustFind held noSuchSegment) λ c. workRule i s c w ks
+
+unfoldable pub worked : ℕ → ℕ → Option Content → Work → List Copy → Answer (Value × List Copy)
+worked i s held w ks = ranged i s held w ks (inRange w)
+
+-- the copies that a draft has after it
+abbrev pub after : List Copy → Answer (Value × List Copy) → List Copy
+after ks r = settle ks r .1
+
+-- the book whose draft d has these copies, with the work's value
+abbrev leaving : Book → ℕ → Bool → Value × List Copy → Answer (Value × Book)
+leaving b d stale r = ok (r .0, withDrafts b (put (b .drafts) d (working (r .1) stale)))
+
+-- what a draft's work gives, as a call on its book
+abbrev pub acted : Book → ℕ → Bool → Answer (Value × List Copy) → Answer (Value × Book)
+acted b d stale r = andThen r (leaving b d stale)
+
+-- the rule of a call on an open draft is that of the work on its copies
+pub on-worked : (b : Book) (d s : ℕ) (w : Work) (ks : List Copy) (stale : Bool) → draftAt (b .drafts) d ≡ working ks stale
+    → bookRule b (on d s w) ≡ acted b d stale (worked (b .issue) s (at (b .segments) s) w ks)
+unfolding bookRule worked andThen
+on-worked b d s w ks stale e = rw e (go (at (b .segments) s) (inRange w))
+  where
+    go : (held : Option Content) (r : Bool)
+        → andThen (must r outOfRange 0) (λ _. andThen (mustFind held noSuchSegment) λ c. andThen (workRule (b .issue) s c w ks) (leaving b d stale))
+        ≡ acted b d stale (ranged (b .issue) s held w ks r)
+    go held false = refl
+    go none true = refl
+    go (some c) true = refl
+
+-- an edit changes no number of a copy
+edits-has : (s x : ℕ) (ks : List Copy) (r : Answer (Value × Content)) → has x ks ≡ true
+    → has x (after ks (andThen r λ (z : Value × Content). ok (z .0, recopy s (z .1) ks))) ≡ true
+unfolding andThen
+edits-has s x ks (ok z) h = has-recopy x s (z .1) ks ∙ h
+edits-has s x ks (no n p) h = h
+
+takes : ℕ → Content → List Copy → Bool → Bool → Answer (Value × List Copy)
+takes s c ks there room =
+    andThen (must (not there) takenAlready 0) λ _.
+    andThen (must room twoTaken 0) λ _.
+    ok (done, ks ++ (record { segment = s; held = c } ∷ []))
+
+takes-has : (s x : ℕ) (c : Content) (ks : List Copy) (there room : Bool) → has x ks ≡ true → has x (after ks (takes s c ks there room)) ≡ true
+unfolding takes andThen
+takes-has s x c ks true room h = h
+takes-has s x c ks false false h = h
+takes-has s x c ks false true h = has-append x ks _ h
+
+works-has : (i s : ℕ) (c : Content) (w : Work) (ks : List Copy) (x : ℕ) → has x ks ≡ true → has x (after ks (workRule i s c w ks)) ≡ true
+unfolding workRule takes andThen
+works-has i s c taking ks x h = takes-has s x c ks (has s ks) (ltb (length ks) 2) h
+works-has i s c (editing e) ks x h = go (copyOf s ks)
+  where
+    go : (o : Option Content) → has x (after ks (andThen (mustFind o notTaken) λ k. andThen (editRule i e k) λ r. ok (r .0, recopy s (r .1) ks))) ≡ true
+    go none = h
+    go (some k) = edits-has s x ks (editRule i e k) h
 
 -- after any work it has what it had
-work-has : (i s : ℕ) (o : Option Content) (w : Work) (ks : List Copy) (x : ℕ) → has x ks ≡ true → has x (work i s o w ks .1) ≡ true
-unfolding work
-work-has i s o w ks x h = ranged-has i s o w ks (inRange w) x h
+work-has : (i s : ℕ) (o : Option Content) (w : Work) (ks : List Copy) (x : ℕ) → has x ks ≡ true → has x (after ks (worked i s o w ks)) ≡ true
+unfolding worked andThen
+work-has i s o w ks x h = go o (inRange w)
+  where
+    go : (o : Option Content) (r : Bool) → has x (after ks (ranged i s o w ks r)) ≡ true
+    go o false = h
+    go none true = h
+    go (some c) true = works-has i s c w ks x h
 
 -- ---- work looks at the book's segment only to see whether it is there, or to take it
-works-frame : (i s : ℕ) (c d : Content) (w : Work) (ks : List Copy) (o : Option Content) →
-    (has s (works i s c w ks o .1) ≡ true → some d ≡ some c) → works i s d w ks o ≡ works i s c w ks o
-works-frame i s c d taking ks none h = go (leb 2 (length ks)) h
+takes-frame : (s : ℕ) (c d : Content) (ks : List Copy) (there room : Bool) → (has s (after ks (takes s c ks there room)) ≡ true → some d ≡ some c)
+    → takes s d ks there room ≡ takes s c ks there room
+unfolding takes andThen
+takes-frame s c d ks true room h = refl
+takes-frame s c d ks false false h = refl
+takes-frame s c d ks false true h = let e : d ≡ c = some-same (h (has-last s c ks)) in ap (λ (y : Content). takes s y ks false true) e
+
+works-frame : (i s : ℕ) (c d : Content) (w : Work) (ks : List Copy) → (has s (after ks (workRule i s c w ks)) ≡ true → some d ≡ some c)
+    → workRule i s d w ks ≡ workRule i s c w ks
+unfolding workRule takes
+works-frame i s c d taking ks h = takes-frame s c d ks (has s ks) (ltb (length ks) 2) h
+works-frame i s c d (editing e) ks h = refl
+
+work-frame : (i s : ℕ) (o p : Option Content) (w : Work) (ks : List Copy) → isSome p ≡ isSome o
+    → (has s (after ks (worked i s o w ks)) ≡ true → p ≡ o) → worked i s p w ks ≡ worked i s o w ks
+unfolding worked andThen
+work-frame i s o p w ks e h = go o p (inRange w) e h
   where
-    go : (b : Bool) → (has s (takes s c ks b .1) ≡ true → some d ≡ some c) → takes s d ks b ≡ takes s c ks b
-    go true f = refl
-    go false f = let e : d ≡ c = some-same (f (has-last s c ks)) in ap (λ (y : Content). takes s y ks false) e
-works-frame i s c d taking ks (some k) h = refl
-works-frame i s c d (editing e) ks none h = refl
-works-frame i s c d (editing e) ks (some k) h = refl
-
-ranged-frame : (i s : ℕ) (o p : Option Content) (w : Work) (ks : List Copy) (r : Bool) →
-    isSome p ≡ isSome o → (has s (ranged i s o w ks r .1) ≡ true → p ≡ o) → ranged i s p w ks r ≡ ranged i s o w ks r
-ranged-frame i s o p w ks false e h = refl
-ranged-frame i s none none w ks true e h = refl
-ranged-frame i s none (some d) w ks true e h = cc
-ranged-frame i s (some c) none w ks true e h = cc
-ranged-frame i s (some c) (some d) w ks true e h = works-frame i s c d w ks (copyOf s ks) h
-
-work-frame : (i s : ℕ) (o p : Option Content) (w : Work) (ks : List Copy) →
-    isSome p ≡ isSome o → (has s (work i s o w ks .1) ≡ true → p ≡ o) → work i s p w ks ≡ work i s o w ks
-unfolding work
-work-frame i s o p w ks e h = ranged-frame i s o p w ks (inRange w) e h
+    go : (o p : Option Content) (r : Bool) → isSome p ≡ isSome o → (has s (after ks (ranged i s o w ks r)) ≡ true → p ≡ o)
+        → ranged i s p w ks r ≡ ranged i s o w ks r
+    go o p false e h = refl
+    go none none true e h = refl
+    go none (some d) true e h = cc
+    go (some c) none true e h = cc
+    go (some c) (some d) true e h = works-frame i s c d w ks h
 
 -- where the segments agree at all that the draft has after the work, the work is the same
-pub work-agree : (i s : ℕ) (w : Work) (ks : List Copy) (l m : List Content) → Agree (work i s (at l s) w ks .1) l m →
-    work i s (at m s) w ks ≡ work i s (at l s) w ks
+pub work-agree : (i s : ℕ) (w : Work) (ks : List Copy) (l m : List Content) → Agree (after ks (worked i s (at l s) w ks)) l m
+    → worked i s (at m s) w ks ≡ worked i s (at l s) w ks
 work-agree i s w ks l m a = work-frame i s (at l s) (at m s) w ks (a .shape s) (a .alike s)
 
 -- segments that agree at what the draft has after the work agree at what it had before
-pub agree-before : (i s : ℕ) (o : Option Content) (w : Work) (ks : List Copy) (l m : List Content) → Agree (work i s o w ks .1) l m → Agree ks l m
+pub agree-before : (i s : ℕ) (o : Option Content) (w : Work) (ks : List Copy) (l m : List Content) → Agree (after ks (worked i s o w ks)) l m → Agree ks l m
 agree-before i s o w ks l m a = record { shape = a .shape; alike = λ x h. a .alike x (work-has i s o w ks x h) }
 
 -- ---- a store keeps whatever it does not touch

@@ -5,12 +5,12 @@ use mathlib.Core.Bool.{false}
 use mathlib.Core.List.{List, [], _∷_, _++_}
 use borrow.Author.Tests.{eq-eqb}
 use Rattle.refusal.specs.Answer.{ok, no}
-use Rattle.steps.specs.Calls.{Work, Call, opening, on, commit, drop, undo, Value, Answer, draft}
+use Rattle.steps.specs.Calls.{Work, Call, opening, on, commit, drop, undo, Value, BookAnswer, draft}
 use Rattle.steps.specs.Serial.{Event, isOpenOf, isOn, draftOn, keptAfter}
 
 module _ (past es : List Event) where
   -- an undo is kept where it stands, with its answer, accepted or refused
-  pub kept-undo : (a : Answer) →
+  pub kept-undo : (a : BookAnswer) →
       keptAfter past (record { call = undo; answer = a } ∷ es) ≡ record { call = undo; answer = a } ∷ keptAfter (record { call = undo; answer = a } ∷ past) es
   unfolding keptAfter
   kept-undo a = refl
@@ -28,17 +28,17 @@ module _ (past es : List Event) where
   unfolding keptAfter
   refused-commit d n p = refl
 
-  pub dropped : (d : ℕ) (a : Answer) →
+  pub dropped : (d : ℕ) (a : BookAnswer) →
       keptAfter past (record { call = drop d; answer = a } ∷ es) ≡ keptAfter (record { call = drop d; answer = a } ∷ past) es
   unfolding keptAfter
   dropped d a = refl
 
-  pub opened : (a : Answer) →
+  pub opened : (a : BookAnswer) →
       keptAfter past (record { call = opening; answer = a } ∷ es) ≡ keptAfter (record { call = opening; answer = a } ∷ past) es
   unfolding keptAfter
   opened a = refl
 
-  pub worked : (d s : ℕ) (w : Work) (a : Answer) →
+  pub worked : (d s : ℕ) (w : Work) (a : BookAnswer) →
       keptAfter past (record { call = on d s w; answer = a } ∷ es) ≡ keptAfter (record { call = on d s w; answer = a } ∷ past) es
   unfolding keptAfter
   worked d s w a = refl
@@ -50,13 +50,13 @@ unfolding draftOn
 draft-open past d = rw (eq-eqb d d refl)
 
 -- and has each later call on its number, with its answer, accepted or refused
-pub draft-on : (past : List Event) (d s : ℕ) (w : Work) (a : Answer) →
+pub draft-on : (past : List Event) (d s : ℕ) (w : Work) (a : BookAnswer) →
     draftOn d (record { call = on d s w; answer = a } ∷ past) ≡ draftOn d past ++ (record { call = on 1 s w; answer = a } ∷ [])
 unfolding draftOn
 draft-on past d s w a = rw (eq-eqb d d refl)
 
 -- and no other call
-pub draft-other : (past : List Event) (d : ℕ) (c : Call) (a : Answer) → isOpenOf d c a ≡ false → isOn d c ≡ false →
+pub draft-other : (past : List Event) (d : ℕ) (c : Call) (a : BookAnswer) → isOpenOf d c a ≡ false → isOn d c ≡ false →
     draftOn d (record { call = c; answer = a } ∷ past) ≡ draftOn d past
 unfolding draftOn
 draft-other past d c a e f = rw (e, f)

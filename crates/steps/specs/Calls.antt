@@ -1,14 +1,14 @@
 -- Document 01, "Steps", and the order of "Book calls": what each call on a book answers, and the book that it leaves.
 use Prim.Native.Nat.{ℕ, suc, _-_}
-use mathlib.Core.Bool.{Bool, true, false, cond, _&&_, _||_}
+use mathlib.Core.Bool.{Bool, true, false, not, cond, _&&_, _||_}
 use mathlib.Core.List.{List, [], _∷_, _++_, map}
 use mathlib.Core.Option.{Option, none, some}
 use lib.ListN.{length, getElem?, take}
 use lib.ListN as list
-use lib.Dec.{leb, ltb, eqb}
+use lib.Dec.{ltb, eqb}
 use Rattle.refusal.specs.Numbers.{Reason, wrongTime, noDraft, allOpen, noSuchSegment, notTaken, takenAlready, twoTaken, segmentFull, onlyPlace, staleDraft, noStep, outOfRange}
 use Rattle.refusal.specs.Answer as refusal
-use Rattle.refusal.specs.Answer.{ok}
+use Rattle.refusal.specs.Answer.{ok, no, refused, must, andThen}
 use Rattle.calendar.specs.Calendar.{isTime}
 use Rattle.calendar.specs.Purge.{purgeOf}
 use Rattle.calendar.specs.declared.Stamp.{Stamp}
@@ -51,12 +51,19 @@ pub data Value : Type 0 where
   -- the segments, ascending
   changed : List ℕ → Value
 
-abbrev pub Answer : Type 0
-Answer = refusal.Answer Value
+abbrev pub BookAnswer : Type 0
+BookAnswer = refusal.Answer Value
 
--- every refusal of a book call has place 0
-abbrev pub refused : Reason → Answer
-refused reason = refusal.refused reason 0
+-- ---- refusals: "Each returns its number and a place, changes no lent byte"; "Place is 0 unless stated"
+-- what must be there
+abbrev pub mustFind : {A : Type 0} → Option A → Reason → refusal.Answer A
+mustFind none reason = refused reason 0
+mustFind (some x) reason = ok x
+
+-- A rule gives a value and what the call leaves in the place of x. What a refused call leaves is x itself.
+abbrev pub settle : {A : Type 0} → A → refusal.Answer (Value × A) → BookAnswer × A
+settle x (ok r) = (ok (r .0), r .1)
+settle x (no n place) = (no n place, x)
 
 -- ---- edits of a copy
 unfoldable pub member : ℕ → List ℕ → Bool
@@ -67,38 +74,35 @@ unfoldable pub without : ℕ → List ℕ → List ℕ
 without p [] = []
 without p (q ∷ qs) = cond (eqb p q) qs (q ∷ without p qs)
 
--- 24 comes last of an index's refusals
-abbrev pub placeAt : Option ℕ → Answer
-placeAt none = refused outOfRange
-placeAt (some p) = ok (number p)
+abbrev pub withPlaces : Content → List ℕ → Content
+withPlaces c ps = record { purge = c .purge; places = ps }
 
+-- What an edit answers of the copy c, and the copy that it leaves, under the book's issue: "then 5, 19, 20, .. 24 (index)", each for its own edit.
+unfoldable pub editRule : ℕ → Edit → Content → refusal.Answer (Value × Content)
+-- a read leaves the copy
+editRule issue readPurge c = ok (number (c .purge), c)
+editRule issue readCount c = ok (number (length (c .places)), c)
+editRule issue (readPlace i) c =
+    andThen (mustFind (getElem? (c .places) i) outOfRange) λ p.
+    ok (number p, c)
 -- "adding one that is there .. is accepted and changes nothing"; 19 for "adding an absent place to 120"
-abbrev pub adding : ℕ → Content → Bool → Bool → Answer × Content
-adding p c true full = (ok (was true), c)
-adding p c false true = (refused segmentFull, c)
-adding p c false false = (ok (was false), record { purge = c .purge; places = insert p (c .places) })
-
--- "or removing one that is not"; 20 for "removing the only place"
-abbrev pub removing : ℕ → Content → Bool → Bool → Answer × Content
-removing p c false only = (ok (was false), c)
-removing p c true true = (refused onlyPlace, c)
-removing p c true false = (ok (was true), record { purge = c .purge; places = without p (c .places) })
-
+editRule issue (add p) c =
+    cond (member p (c .places)) (ok (was true, c))
+    (andThen (must (ltb (length (c .places)) capacity) segmentFull 0) λ _.
+    ok (was false, withPlaces c (insert p (c .places))))
+-- "or removing one that is not, is accepted and changes nothing"; 20 for "removing the only place"
+editRule issue (remove p) c =
+    cond (member p (c .places))
+    (andThen (must (not (eqb (length (c .places)) 1)) onlyPlace 0) λ _.
+    ok (was true, withPlaces c (without p (c .places))))
+    (ok (was false, c))
 -- "stores and answers the minute they give", or 5
-abbrev pub purging : Content → Option ℕ → Answer × Content
-purging c none = (refused wrongTime, c)
-purging c (some m) = (ok (number m), record { purge = m; places = c .places })
+editRule issue (setPurge s) c =
+    andThen (mustFind (purgeOf issue s) wrongTime) λ minute.
+    ok (number minute, record { purge = minute; places = c .places })
 
--- under the book's issue
-unfoldable pub edited : ℕ → Edit → Content → Answer × Content
-edited issue readPurge c = (ok (number (c .purge)), c)
-edited issue readCount c = (ok (number (length (c .places))), c)
-edited issue (readPlace i) c = (placeAt (getElem? (c .places) i), c)
-edited issue (add p) c = adding p c (member p (c .places)) (leb capacity (length (c .places)))
-edited issue (remove p) c = removing p c (member p (c .places)) (eqb (length (c .places)) 1)
-edited issue (setPurge s) c = purging c (purgeOf issue s)
-
--- ---- work of one draft: "24 (place or time), 15, then 16 or 17, 18, then 5, 19, 20, .. 24 (index)"
+-- ---- work of one draft on segment s
+-- "24: a place, DD, HH, MM .. handed in out of range". An index is not asked here: its 24 comes last.
 abbrev pub inRange : Work → Bool
 inRange taking = true
 inRange (editing readPurge) = true
@@ -118,31 +122,25 @@ unfoldable pub recopy : ℕ → Content → List Copy → List Copy
 recopy s c [] = []
 recopy s c (k ∷ ks) = record { segment = k .segment; held = cond (eqb s (k .segment)) c (k .held) } ∷ recopy s c ks
 
--- "Take: copies a segment into the draft, at most two": 18, or segment s, which holds c, is taken
-abbrev pub takes : ℕ → Content → List Copy → Bool → Answer × List Copy
-takes s c ks true = (refused twoTaken, ks)
-takes s c ks false = (ok done, ks ++ (record { segment = s; held = c } ∷ []))
-
--- segment s holds c; the last argument is the draft's copy of it
-abbrev pub works : ℕ → ℕ → Content → Work → List Copy → Option Content → Answer × List Copy
-works issue s c taking ks none = takes s c ks (leb 2 (length ks))
-works issue s c taking ks (some k) = (refused takenAlready, ks)
-works issue s c (editing e) ks none = (refused notTaken, ks)
-works issue s c (editing e) ks (some k) = (edited issue e k .0, recopy s (edited issue e k .1) ks)
-
-abbrev pub ranged : ℕ → ℕ → Option Content → Work → List Copy → Bool → Answer × List Copy
-ranged issue s held w ks false = (refused outOfRange, ks)
-ranged issue s none w ks true = (refused noSuchSegment, ks)
-ranged issue s (some c) w ks true = works issue s c w ks (copyOf s ks)
-
-unfoldable pub work : ℕ → ℕ → Option Content → Work → List Copy → Answer × List Copy
-work issue s held w ks = ranged issue s held w ks (inRange w)
-
--- ---- storing contents, and what turns stale
+-- has the draft that holds these copies taken segment s?
 unfoldable pub has : ℕ → List Copy → Bool
 has s [] = false
 has s (k ∷ ks) = eqb s (k .segment) || has s ks
 
+-- What the work answers, and the copies that it leaves, where the book holds c as segment s: "then 16 or 17, 18", then the edit's own.
+unfoldable pub workRule : ℕ → ℕ → Content → Work → List Copy → refusal.Answer (Value × List Copy)
+-- 17, 18; "Take: copies a segment into the draft, at most two"
+workRule issue s c taking ks =
+    andThen (must (not (has s ks)) takenAlready 0) λ _.
+    andThen (must (ltb (length ks) 2) twoTaken 0) λ _.
+    ok (done, ks ++ (record { segment = s; held = c } ∷ []))
+-- 16, then 5, 19, 20 or 24 (index)
+workRule issue s c (editing e) ks =
+    andThen (mustFind (copyOf s ks) notTaken) λ copy.
+    andThen (editRule issue e copy) λ r.
+    ok (r .0, recopy s (r .1) ks)
+
+-- ---- storing contents, and what turns stale
 -- do the copies name one of these segments?
 unfoldable pub touches : List Copy → List Copy → Bool
 touches [] ks = false
@@ -158,9 +156,9 @@ stored [] segments = segments
 stored (c ∷ cs) segments = put (stored cs segments) (c .segment) (c .held)
 
 -- ---- commit
-unfoldable pub same : Option Content → Content → Bool
-same none c = false
-same (some b) c = eqb (b .purge) (c .purge) && sameList (b .places) (c .places)
+unfoldable pub sameContent : Option Content → Content → Bool
+sameContent none c = false
+sameContent (some b) c = eqb (b .purge) (c .purge) && sameList (b .places) (c .places)
 
 unfoldable pub insertCopy : Copy → List Copy → List Copy
 insertCopy k [] = k ∷ []
@@ -169,7 +167,7 @@ insertCopy k (q ∷ qs) = cond (ltb (k .segment) (q .segment)) (k ∷ q ∷ qs) 
 -- "the changed segments are those whose copy differs from the book", ascending
 unfoldable pub changes : List Content → List Copy → List Copy
 changes segments [] = []
-changes segments (k ∷ ks) = cond (same (at segments (k .segment)) (k .held)) (changes segments ks) (insertCopy k (changes segments ks))
+changes segments (k ∷ ks) = cond (sameContent (at segments (k .segment)) (k .held)) (changes segments ks) (insertCopy k (changes segments ks))
 
 abbrev pub orElse : Option Content → Content → Content
 orElse none c = c
@@ -191,10 +189,10 @@ abbrev pub remember : List Copy → History → History
 remember [] h = h
 remember (k ∷ ks) h = record { kept = latest (h .kept ++ ((k ∷ ks) ∷ [])) }
 
-abbrev pub numbers : List Copy → List ℕ
-numbers ks = map (λ (k : Copy). k .segment) ks
+abbrev pub segmentsNamed : List Copy → List ℕ
+segmentsNamed ks = map (λ (k : Copy). k .segment) ks
 
--- ---- the calls: 13; 14; 21; 22
+-- ---- the books that the calls leave
 abbrev pub withDrafts : Book → List Draft → Book
 withDrafts b ds = record { issue = b .issue; segments = b .segments; drafts = ds; history = b .history }
 
@@ -203,17 +201,6 @@ unfoldable pub lowest : ℕ → List Draft → Option ℕ
 lowest n [] = none
 lowest n (closed ∷ ds) = some n
 lowest n (working ks stale ∷ ds) = lowest (suc n) ds
-
-abbrev pub opens : Book → Option ℕ → Answer × Book
-opens b none = (refused allOpen, b)
-opens b (some d) = (ok (draft d), withDrafts b (put (b .drafts) d (working [] false)))
-
-abbrev pub acts : Book → ℕ → ℕ → Work → Draft → Answer × Book
-acts b d s w closed = (refused noDraft, b)
-acts b d s w (working ks stale) = (
-  work (b .issue) s (at (b .segments) s) w ks .0,
-  withDrafts b (put (b .drafts) d (working (work (b .issue) s (at (b .segments) s) w ks .1) stale)),
-)
 
 -- the changes are stored, "with or without a change the draft closes"
 abbrev pub committed : Book → ℕ → List Copy → Book
@@ -224,16 +211,6 @@ committed b d cs =
       drafts = put (map (staled cs) (b .drafts)) d closed;
       history = remember (map (oldOf (b .segments)) cs) (b .history);
     }
-
-abbrev pub commits : Book → ℕ → Draft → Answer × Book
-commits b d closed = (refused noDraft, b)
-commits b d (working ks true) = (refused staleDraft, b)
-commits b d (working ks false) = (ok (changed (numbers (changes (b .segments) ks))), committed b d (changes (b .segments) ks))
-
--- "Drop closes."
-abbrev pub drops : Book → ℕ → Draft → Answer × Book
-drops b d closed = (refused noDraft, b)
-drops b d (working ks stale) = (ok done, withDrafts b (put (b .drafts) d closed))
 
 unfoldable pub newest : List (List Copy) → Option (List Copy)
 newest steps = getElem? steps (length steps - 1)
@@ -251,13 +228,44 @@ undone b cs =
       history = record { kept = older (b .history .kept) };
     }
 
-abbrev pub undoes : Book → Option (List Copy) → Answer × Book
-undoes b none = (refused noStep, b)
-undoes b (some cs) = (ok (changed (numbers cs)), undone b cs)
+-- ---- the calls
+-- an open draft
+pub record OpenDraft : Type 0 where
+  pub copies : List Copy
+  pub stale : Bool
 
-unfoldable pub step : Book → Call → Answer × Book
-step b opening = opens b (lowest 1 (b .drafts))
-step b (on d s w) = acts b d s w (draftAt (b .drafts) d)
-step b (commit d) = commits b d (draftAt (b .drafts) d)
-step b (drop d) = drops b d (draftAt (b .drafts) d)
-step b undo = undoes b (newest (b .history .kept))
+abbrev pub openDraft : Draft → Option OpenDraft
+openDraft closed = none
+openDraft (working ks stale) = some (record { copies = ks; stale = stale })
+
+-- "Book calls: 1, 12, 13, 24 (place or time), 15, then 16 or 17, 18, then 5, 19, 20, 21, 24 (index). Open: 14 after 12; undo: 22 after 12".
+-- 1 and 12 are asked of the book's bytes, before these: layout/specs/Rule.antt.
+unfoldable pub bookRule : Book → Call → refusal.Answer (Value × Book)
+-- 14
+bookRule b opening =
+    andThen (mustFind (lowest 1 (b .drafts)) allOpen) λ d.
+    ok (draft d, withDrafts b (put (b .drafts) d (working [] false)))
+-- 13, 24 (place or time), 15, then the work's own
+bookRule b (on d s w) =
+    andThen (mustFind (openDraft (draftAt (b .drafts) d)) noDraft) λ x.
+    andThen (must (inRange w) outOfRange 0) λ _.
+    andThen (mustFind (at (b .segments) s) noSuchSegment) λ c.
+    andThen (workRule (b .issue) s c w (x .copies)) λ r.
+    ok (r .0, withDrafts b (put (b .drafts) d (working (r .1) (x .stale))))
+-- 13, 21
+bookRule b (commit d) =
+    andThen (mustFind (openDraft (draftAt (b .drafts) d)) noDraft) λ x.
+    andThen (must (not (x .stale)) staleDraft 0) λ _.
+    ok (changed (segmentsNamed (changes (b .segments) (x .copies))), committed b d (changes (b .segments) (x .copies)))
+-- 13; "Drop closes."
+bookRule b (drop d) =
+    andThen (mustFind (openDraft (draftAt (b .drafts) d)) noDraft) λ _.
+    ok (done, withDrafts b (put (b .drafts) d closed))
+-- 22
+bookRule b undo =
+    andThen (mustFind (newest (b .history .kept)) noStep) λ cs.
+    ok (changed (segmentsNamed cs), undone b cs)
+
+-- what the call answers, and the book that it leaves
+unfoldable pub step : Book → Call → BookAnswer × Book
+step b c = settle b (bookRule b c)
