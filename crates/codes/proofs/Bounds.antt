@@ -13,7 +13,8 @@ use Rattle.lines.specs.Bytes.{Kind, between, capital, digit, oneOf, word, begin
 use Rattle.lines.specs.Lines.{prefixForm, threeDigits}
 use Rattle.lines.proofs.Strings.{begins-is}
 use Rattle.calendar.specs.Calendar.{isTime}
-use Rattle.codes.specs.Places.{prefixOf, threeOf, prefixes, Low}
+use Rattle.codes.specs.Places.{prefixOf, threeOf, prefixes}
+use Rattle.codes.specs.Serving.{Low}
 use Rattle.codes.specs.Elements.{covers, purge, wrong, singleForm, rangeForm, purgeForm, isRange, numbers, stampOf, time, short, said}
 
 -- ---- the front of a form, and what comes after it

@@ -15,7 +15,7 @@ use Rattle.lines.proofs.Strings.{begins-is, begins-append, exactly-is}
 use Rattle.calendar.specs.Calendar.{isTime}
 use Rattle.codes.specs.Places.{prefixOf, twoOf, threeOf}
 use Rattle.codes.specs.Elements.{covers, wrong, singleForm, rangeForm, purgeForm, isRange, numbers, stampOf, time, short, said}
-use Rattle.codes.specs.Cursor.{lastOf, paperSaid}
+use Rattle.codes.specs.Cursor.{paperLast, paperSaid}
 use Rattle.codes.specs.declared.Last.{Last}
 use Rattle.codes.specs.declared.Last.the-variants.{Prefix, Nothing}
 use Rattle.codes.specs.declared.Said.{Said}
@@ -151,26 +151,26 @@ module _ (s : List ℕ) where
   purge-not n = sym (other-length purgeForm s n)
 
 module _ (s : List ℕ) (last : Last) (d : Bool) (ed : d ≡ exactly purgeForm s) where
-  pub said-time : d ≡ true → (r : Said) → paperSaid r ≡ time (stampOf s) → paperSaid r ≡ said (lastOf last) s
+  pub said-time : d ≡ true → (r : Said) → paperSaid r ≡ time (stampOf s) → paperSaid r ≡ said (paperLast last) s
   unfolding said
   said-time e r q = q ∙ simp (← ed, e)
 
   -- where the two forms meet: the numbers stand under a full element's own prefix and behind it, or under the last prefix and at the front
   module _ (n : d ≡ false) (f : Bool) (ef : f ≡ begins prefixForm s) (under : Last) (k : ℕ) where
-    pub meets-full : f ≡ true → (p : ℕ) → p ≡ prefixOf s → under ≡ Prefix p → k ≡ 3 → said (lastOf last) s ≡ short (lastOf under) (drop k s)
+    pub meets-full : f ≡ true → (p : ℕ) → p ≡ prefixOf s → under ≡ Prefix p → k ≡ 3 → said (paperLast last) s ≡ short (paperLast under) (drop k s)
     unfolding said short
     meets-full y p ep eu ek = simp (← ed, n, ← ef, y, eu, ek, ep)
 
-    pub meets-short : f ≡ false → under ≡ last → k ≡ 0 → said (lastOf last) s ≡ short (lastOf under) (drop k s)
+    pub meets-short : f ≡ false → under ≡ last → k ≡ 0 → said (paperLast last) s ≡ short (paperLast under) (drop k s)
     unfolding said
     meets-short y eu ek = simp (← ed, n, ← ef, y, eu, ek)
 
-module _ (s : List ℕ) (last under : Last) (k : ℕ) (m : said (lastOf last) s ≡ short (lastOf under) (drop k s)) where
-  pub said-none : under ≡ Nothing → paperSaid Wrong ≡ said (lastOf last) s
+module _ (s : List ℕ) (last under : Last) (k : ℕ) (m : said (paperLast last) s ≡ short (paperLast under) (drop k s)) where
+  pub said-none : under ≡ Nothing → paperSaid Wrong ≡ said (paperLast last) s
   unfolding short
   said-none u = simp (m, u)
 
-  pub said-numbers : (p : ℕ) → under ≡ Prefix p → (rest : List ℕ) → rest ≡ take (length s - k) (drop k s) → (r : Said) → paperSaid r ≡ numbers p rest → paperSaid r ≡ said (lastOf last) s
+  pub said-numbers : (p : ℕ) → under ≡ Prefix p → (rest : List ℕ) → rest ≡ take (length s - k) (drop k s) → (r : Said) → paperSaid r ≡ numbers p rest → paperSaid r ≡ said (paperLast last) s
   unfolding short
   said-numbers p u rest er r q =
       let whole : rest ≡ drop k s = er ∙ take-all (length s - k) (drop k s) (omega (arith, length-drop k s)) in

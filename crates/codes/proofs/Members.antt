@@ -10,7 +10,8 @@ use lib.ListN.{length, take, drop}
 use lib.Dec.{ltb, eqb}
 use borrow.Author.Tests.{ltb-true, ltb-false, eqb-true, eqb-false, lt-ltb, le-ltb, eq-eqb, ne-eqb}
 use Rattle.laws.proofs.Tests.{by}
-use Rattle.codes.specs.Places.{placesEnd, Ascending, nil, cons, upward, First}
+use Rattle.codes.specs.Places.{placesEnd, Ascending, nil, cons, upward}
+use Rattle.codes.specs.Serving.{First}
 use Rattle.codes.specs.Block.{insert, insertRun}
 
 -- ---- one place

@@ -3,25 +3,27 @@ use Prim.Native.Nat.{ℕ, zero, suc, _+_, _-_, _≤_, _<_}
 use native.Mathlib.Omega.{arith}
 use mathlib.Core.Path.{_≡_, refl, sym, ap, _∙_}
 use mathlib.Core.List.{List, [], _∷_, _++_, append-assoc, append-nil}
-use mathlib.Core.Bool.{Bool, true, false, _&&_, and-false}
+use mathlib.Core.Bool.{Bool, true, false}
 use mathlib.Core.Option.{Option, none, some}
 use lib.ListN.{length, getD, take, drop, length-drop, drop-of-length-le}
 use lib.Seq.{drop-at, take-suc, getD-drop, length-take-le}
-use lib.Dec.{eqb, ltb}
-use borrow.Author.Tests.{eq-eqb, ne-eqb, lt-ltb, le-ltb, ltb-true, ltb-false, eqb-true, eqb-false}
-use Rattle.laws.proofs.Tests.{by, by-order, impossible, apart}
+use lib.Dec.{eqb, leb}
+use borrow.Author.Tests.{eq-eqb, ne-eqb, le-leb, lt-leb, eqb-true, eqb-false}
+use Rattle.laws.proofs.Tests.{by, by-order, apart}
 use Rattle.lines.specs.Bytes.{lf, begins, exactly}
 use Rattle.lines.specs.Lines.{pieces, bodyOf}
-use Rattle.lines.specs.Spans.{part, ending}
-use Rattle.lines.proofs.Ends.{no-end, past-end, firstPiece, pieces-first, nextOf, next-last, next-here, next-within, next-on, lines-step, lines-last, InLine, in-start, in-on, body-at}
+use Rattle.lines.specs.Spans.{part, endingOf, paperEnding, ends}
+use Rattle.lines.specs.declared.Ending.{Ending}
+use Rattle.lines.specs.declared.Ending.the-variants as ending
+use Rattle.lines.proofs.Ends.{no-end, past-end, ending-length, ending-none, end-bytes, firstPiece, pieces-first, nextOf, next-last, next-here, next-within, next-on, lines-step, lines-last, InLine, in-start, in-on, body-at}
 use Rattle.calendar.specs.declared.Stamp.{Stamp}
 use Rattle.codes.specs.Elements.{numbers, short, said, Element, dash, null, elementsAt, elementsOfBody, elementsOfLines, elementsFrom}
 use Rattle.codes.specs.Elements as elements
 use Rattle.codes.specs.Block.{insertCovered, Read, block, wrongAt, ended, readFrom}
-use Rattle.codes.specs.Places.{Low}
+use Rattle.codes.specs.Serving.{Low}
 use Rattle.codes.proofs.Bounds.{Below, covers-low}
 use Rattle.codes.proofs.Turns.{read-covers, read-purge, read-wrong}
-use Rattle.codes.specs.Cursor.{lastOf, paperSaid, nextPlace, purged, stepOver, pastEnd, lastOfLine, Runs, stepAt}
+use Rattle.codes.specs.Cursor.{paperLast, paperSaid, nextPlace, purged, stepOver, afterEnd, pastEnd, lastOfLine, Runs, stepAt}
 use Rattle.codes.specs.declared.Last.the-variants.{Prefix}
 use Rattle.codes.specs.declared.Said.{Said}
 use Rattle.codes.specs.declared.Said.the-variants.{Covers, Purge}
@@ -58,34 +60,34 @@ body-last : (s : List ℕ) (i : ℕ) → length s ≤ i → bodyAt s i ≡ []
 unfolding bodyOf firstPiece
 body-last s i h = rw (drop-of-length-le s h)
 
-body-end : (s : List ℕ) (i : ℕ) → i < length s → (ending (drop i s) ≡ 0 → ⊥) → bodyAt s i ≡ []
-body-end s i h n = body-at s i h ∙ rw (ne-eqb (ending (drop i s)) 0 n)
+body-end : (s : List ℕ) (i k : ℕ) → endingOf (drop i s) ≡ some k → bodyAt s i ≡ []
+body-end s i k e = body-at s i (end-bytes s i k e) ∙ rw e
 
-body-on : (s : List ℕ) (i : ℕ) → i < length s → ending (drop i s) ≡ 0 → bodyAt s i ≡ getD s i 0 ∷ bodyAt s (i + 1)
-body-on s i h z = body-at s i h ∙ rw z
+body-on : (s : List ℕ) (i : ℕ) → i < length s → endingOf (drop i s) ≡ none → bodyAt s i ≡ getD s i 0 ∷ bodyAt s (i + 1)
+body-on s i h e = body-at s i h ∙ rw e
 
 behind-past : (s : List ℕ) (after : ℕ) → length s ≤ after → Behind s after
 behind-past s after h =
-    none-left s after (body-last s after h) (rw (le-ltb after (length s) h, and-false (eqb (ending (drop after s)) 0)))
-    (next-last s after h ∙ rw (← past-end s after h) (omega arith))
+    none-left s after (body-last s after h) (rw (← past-end s after h, le-leb (length s) after h)) (next-last s after h ∙ rw (← past-end s after h))
 
-behind-end : (s : List ℕ) (after : ℕ) → after < length s → (ending (drop after s) ≡ 0 → ⊥) → Behind s after
-behind-end s after h n = none-left s after (body-end s after h n) (rw (ne-eqb (ending (drop after s)) 0 n)) (next-here s after h (ending (drop after s)) refl n)
+behind-end : (s : List ℕ) (after k : ℕ) → endingOf (drop after s) ≡ some k → Behind s after
+behind-end s after k e = none-left s after (body-end s after k e) (rw e) (next-here s after k e ∙ rw e)
 
-behind-on : (s : List ℕ) (after : ℕ) → after < length s → ending (drop after s) ≡ 0 → Behind s after
-behind-on s after h z =
-    let b : bodyAt s after ≡ getD s after 0 ∷ bodyAt s (after + 1) = body-on s after h z in
-    let e : after + 0 ≡ after = omega arith in
+behind-on : (s : List ℕ) (after : ℕ) → after < length s → endingOf (drop after s) ≡ none → Behind s after
+behind-on s after h e =
+    let b : bodyAt s after ≡ getD s after 0 ∷ bodyAt s (after + 1) = body-on s after h e in
     record {
-      last = rw (b, pieces-first dash (getD s after 0) (bodyAt s (after + 1)), z, lt-ltb after (length s) h);
-      rest = rw (z, e) (sym (elements-step s after h ∙ rw b));
+      last = rw (b, pieces-first dash (getD s after 0) (bodyAt s (after + 1)), e, lt-leb (length s) after h);
+      rest = rw e (sym (elements-step s after h ∙ rw b));
     }
 
+-- a line's end stands there, or none does
+by-end : {P : Type 0} (o : Option ℕ) → ((k : ℕ) → o ≡ some k → P) → (o ≡ none → P) → P
+by-end none f g = g refl
+by-end (some k) f g = f k refl
+
 pub behind : (s : List ℕ) (after : ℕ) → Behind s after
-behind s after =
-    by (ltb after (length s))
-    (λ p. let h = ltb-true after (length s) p in by (eqb (ending (drop after s)) 0) (λ q. behind-on s after h (eqb-true _ 0 q)) (λ q. behind-end s after h (eqb-false _ 0 q)))
-    (λ p. behind-past s after (ltb-false after (length s) p))
+behind s after = by-order after (length s) (λ h. by-end (endingOf (drop after s)) (behind-end s after) (behind-on s after h)) (behind-past s after)
 
 -- ---- the first element of a line, and what is left of it
 first-of-body : (at after : ℕ) (B P R : List ℕ) → B ≡ P ++ R → firstPiece dash B ≡ P → at + length P ≡ after
@@ -141,35 +143,42 @@ module _ (s : List ℕ) (at i : ℕ) (a : at < length s) (v : InElement s at i) 
 
   module _ (h : i < length s) where
     -- the line's end
-    pub element-end : (k : ℕ) → k ≡ ending (drop i s) → (k ≡ 0 → ⊥) → Runs s at i
+    stops-here : (k : ℕ) → endingOf (drop i s) ≡ some k → Runs s at i
     unfolding firstPiece
-    element-end k e n =
-        runs-at s at i a (v .line .low) (v .high) (v .line .goes) (v .body) (v .first ∙ rw (body-end s i h (λ z. n (e ∙ z))) (append-nil (part s at i)))
+    stops-here k e =
+        runs-at s at i a (v .line .low) (v .high) (v .line .goes) (v .body) (v .first ∙ rw (body-end s i k e) (append-nil (part s at i)))
 
-    module _ (k : ℕ) (e : k ≡ ending (drop i s)) (z : k ≡ 0) where
+    module _ (e : endingOf (drop i s) ≡ none) where
       more-body : bodyAt s at ≡ part s at (i + 1) ++ bodyAt s (i + 1)
       more-body =
-          v .body ∙ ap (λ (x : List ℕ). part s at i ++ x) (body-on s i h (sym e ∙ z)) ∙ sym (append-assoc (part s at i) (getD s i 0 ∷ []) (bodyAt s (i + 1)))
+          v .body ∙ ap (λ (x : List ℕ). part s at i ++ x) (body-on s i h e) ∙ sym (append-assoc (part s at i) (getD s i 0 ∷ []) (bodyAt s (i + 1)))
           ∙ ap (λ (x : List ℕ). x ++ bodyAt s (i + 1)) (sym (part-more s at i (v .line .low) h))
 
-      pub element-on : (getD s i 0 ≡ 45 → ⊥) → InElement s at (i + 1)
+      goes-on : (getD s i 0 ≡ 45 → ⊥) → InElement s at (i + 1)
       unfolding firstPiece
-      element-on n =
+      goes-on n =
           record {
-            line = in-on s at i (v .line) h k e z;
+            line = in-on s at i (v .line) h e;
             high = omega arith;
             body = more-body;
             first =
-                v .first ∙ ap (λ (x : List ℕ). part s at i ++ x) (rw (body-on s i h (sym e ∙ z), ne-eqb (getD s i 0) 45 n)) ∙ sym (append-assoc (part s at i) (getD s i 0 ∷ []) (elementAt s (i + 1)))
+                v .first ∙ ap (λ (x : List ℕ). part s at i ++ x) (rw (body-on s i h e, ne-eqb (getD s i 0) 45 n)) ∙ sym (append-assoc (part s at i) (getD s i 0 ∷ []) (elementAt s (i + 1)))
                 ∙ ap (λ (x : List ℕ). x ++ elementAt s (i + 1)) (sym (part-more s at i (v .line .low) h));
           }
+
+    module _ (t : Bool) (et : t ≡ ends (endingOf (drop i s))) where
+      pub element-end : t ≡ true → Runs s at i
+      element-end y = by-end (endingOf (drop i s)) stops-here (λ q. let z : false ≡ true = rw q at (sym et ∙ y) in apart cc)
+
+      pub element-on : t ≡ false → (getD s i 0 ≡ 45 → ⊥) → InElement s at (i + 1)
+      element-on n = by-end (endingOf (drop i s)) (λ k q. let z : true ≡ false = rw q at (sym et ∙ n) in apart cc) goes-on
 
     -- its `-`
     pub element-dash : getD s i 0 ≡ 45 → Runs s at (i + 1)
     unfolding firstPiece
     element-dash d =
-        let z : 0 ≡ ending (drop i s) = no-end s i (getD s i 0) refl (omega (arith, d)) in
-        runs-at s at (i + 1) a (omega (arith, v .line .low)) (omega arith) (v .line .goes ∙ next-on s i h 0 z refl) (more-body 0 z refl)
+        let z : endingOf (drop i s) ≡ none = sym (no-end s i (getD s i 0) refl (omega (arith, d))) in
+        runs-at s at (i + 1) a (omega (arith, v .line .low)) (omega arith) (v .line .goes ∙ next-on s i h z) (more-body z)
         (v .first ∙ ap (λ (x : List ℕ). part s at i ++ x) one ∙ sym (part-more s at i (v .line .low) h))
       where
         one : elementAt s i ≡ getD s i 0 ∷ []
@@ -178,10 +187,30 @@ module _ (s : List ℕ) (at i : ℕ) (a : at < length s) (v : InElement s at i) 
 -- ---- a step
 past-within : (s : List ℕ) (after : ℕ) → after ≤ length s → pastEnd s after ≤ length s
 past-within s after h =
-    let k : ℕ = ending (drop after s) in
-    by (eqb k 0) (λ p. omega (arith, eqb-true k 0 p))
-    λ p. by-order after (length s) (λ l. omega (arith, next-here s after l k refl (eqb-false k 0 p), next-within s after h))
-    λ l. impossible (eqb-false k 0 p (sym (past-end s after l)))
+    by-end (endingOf (drop after s)) (λ k e. rw e (omega (arith, next-here s after k e, next-within s after h))) (λ e. rw e h)
+
+past-more : (s : List ℕ) (after : ℕ) → after ≤ pastEnd s after
+past-more s after = by-end (endingOf (drop after s)) (λ k e. rw e (omega arith)) (λ e. rw e (omega arith))
+
+module _ (s : List ℕ) (after : ℕ) (f : Ending) (e : paperEnding f ≡ endingOf (drop after s)) where
+  pub past-length : (k : ℕ) → f ≡ ending.Length k → after + k ≡ pastEnd s after
+  past-length k q = sym (ap (afterEnd after) (ending-length (endingOf (drop after s)) f e k q))
+
+  pub past-none : f ≡ ending.Nothing → after ≡ pastEnd s after
+  past-none q = sym (ap (afterEnd after) (ending-none (endingOf (drop after s)) f e q))
+
+  pub ends-length : (k : ℕ) → f ≡ ending.Length k → true ≡ ends (endingOf (drop after s))
+  ends-length k q = rw (ending-length (endingOf (drop after s)) f e k q)
+
+  pub ends-none : f ≡ ending.Nothing → false ≡ ends (endingOf (drop after s))
+  ends-none q = rw (ending-none (endingOf (drop after s)) f e q)
+
+module _ (s : List ℕ) (after : ℕ) (t : Bool) (et : t ≡ ends (endingOf (drop after s))) where
+  pub last-ended : t ≡ true → true ≡ lastOfLine s after
+  last-ended y = rw (← et, y)
+
+  pub last-none : t ≡ false → leb (length s) after ≡ lastOfLine s after
+  last-none n = rw (← et, n)
 
 first-place : (at stop : ℕ) (B : List ℕ) (es : List Element) → nextPlace stop (elementsOfBody at B ++ es) ≡ at
 unfolding elementsAt
@@ -196,35 +225,33 @@ pub step-none : (s : List ℕ) (c : Cursor) → length s ≤ c .at → Wrong (le
 unfolding stepAt
 step-none s c h = rw (elements-last s (c .at) h)
 
-module _ (s : List ℕ) (c : Cursor) (after : ℕ) (r : Runs s (c .at) after) (skip : ℕ) (ek : skip ≡ ending (drop after s))
-    (g : Said) (eg : paperSaid g ≡ said (lastOf (c .last)) (take (after - c .at) (drop (c .at) s))) where
+module _ (s : List ℕ) (c : Cursor) (after : ℕ) (r : Runs s (c .at) after) (g : Said) (eg : paperSaid g ≡ said (paperLast (c .last)) (take (after - c .at) (drop (c .at) s))) where
   abbrev here : Element
   here = record { at = c .at; bytes = part s (c .at) after; last = lastOfLine s after }
 
-  step-is : stepOver here (after + skip) (paperSaid g) ≡ stepAt s c
+  step-is : (x : Said) → g ≡ x → stepOver here (pastEnd s after) (paperSaid x) ≡ stepAt s c
   unfolding stepAt
-  step-is = rw (r .step, next-place s (pastEnd s after) (past-within s after (r .high)), eg, ek)
+  step-is x e = ap (λ (x : Said). stepOver here (pastEnd s after) (paperSaid x)) (sym e) ∙ rw (r .step, next-place s (pastEnd s after) (past-within s after (r .high)), eg)
 
-  pub step-covers : (p n m : ℕ) → g ≡ Covers p n m → Step.Covers p n m (record { at = after + skip; last = Prefix p }) ≡ stepAt s c
-  step-covers p n m e = ap (λ (x : Said). stepOver here (after + skip) (paperSaid x)) (sym e) ∙ step-is
+  pub step-covers : (next : ℕ) → next ≡ pastEnd s after → (p n m : ℕ) → g ≡ Covers p n m → Step.Covers p n m (record { at = next; last = Prefix p }) ≡ stepAt s c
+  step-covers next en p n m e = rw en (step-is (Covers p n m) e)
 
   pub step-wrong : g ≡ Said.Wrong → Wrong (c .at) ≡ stepAt s c
-  step-wrong e = ap (λ (x : Said). stepOver here (after + skip) (paperSaid x)) (sym e) ∙ step-is
+  step-wrong e = step-is Said.Wrong e
 
   module _ (t : Stamp) (e : g ≡ Purge t) where
     after-is : c .at + length (part s (c .at) after) ≡ after
     after-is = omega (arith, part-length s (c .at) after (r .high), r .low)
 
-    step-purge : (b : Bool) → lastOfLine s after ≡ b → purged b t (c .at) after ≡ stepAt s c
-    step-purge b l =
-        rw (← l) (ap (λ (x : ℕ). purged (lastOfLine s after) t (c .at) x) (sym after-is)
-        ∙ ap (λ (x : Said). stepOver here (after + skip) (paperSaid x)) (sym e) ∙ step-is)
+    step-purge : purged (lastOfLine s after) t (c .at) after ≡ stepAt s c
+    step-purge = ap (λ (x : ℕ). purged (lastOfLine s after) t (c .at) x) (sym after-is) ∙ step-is (Purge t) e
 
-    pub step-last : (eqb skip 0 && ltb after (length s)) ≡ false → Step.Purge t (c .at) ≡ stepAt s c
-    step-last f = step-purge true (rw (← ek, f))
+    module _ (b : Bool) (l : b ≡ lastOfLine s after) where
+      pub step-last : b ≡ true → Step.Purge t (c .at) ≡ stepAt s c
+      step-last y = ap (λ (x : Bool). purged x t (c .at) after) (sym y ∙ l) ∙ step-purge
 
-    pub step-after : (eqb skip 0 && ltb after (length s)) ≡ true → Wrong after ≡ stepAt s c
-    step-after f = step-purge false (rw (← ek, f))
+      pub step-after : b ≡ false → Wrong after ≡ stepAt s c
+      step-after y = ap (λ (x : Bool). purged x t (c .at) after) (sym y ∙ l) ∙ step-purge
 
 -- ---- reading by steps
 runs-from : (k : ℕ) (s : List ℕ) (at i : ℕ) → at < length s → InElement s at i → length s ≤ i + k → (after : ℕ) × Runs s at after
@@ -232,9 +259,8 @@ runs-from zero s at i a v h = (i, element-last s at i a v (omega arith))
 runs-from (suc k) s at i a v h =
     by-order i (length s)
     (λ l. by (eqb (getD s i 0) 45) (λ d. (i + 1, element-dash s at i a v l (eqb-true _ 45 d)))
-    λ d. by (eqb (ending (drop i s)) 0)
-    (λ z. runs-from k s at (i + 1) a (element-on s at i a v l (ending (drop i s)) refl (eqb-true _ 0 z) (eqb-false _ 45 d)) (omega arith))
-    λ z. (i, element-end s at i a v l (ending (drop i s)) refl (eqb-false _ 0 z)))
+    λ d. by-end (endingOf (drop i s)) (λ k e. (i, stops-here s at i a v l k e))
+    λ e. runs-from k s at (i + 1) a (goes-on s at i a v l e (eqb-false _ 45 d)) (omega arith))
     λ l. (i, element-last s at i a v l)
 
 -- every element runs up to some place
@@ -257,13 +283,13 @@ then-over s got last e next (elements.purge t) q = read-purge (length s) last go
     ends false = refl
 then-over s got last e next elements.wrong q = read-wrong (length s) last got e _ q
 
-pub read-step : (s got : List ℕ) (c : Cursor) → readFrom (length s) (lastOf (c .last)) got (elementsFrom (c .at) (drop (c .at) s)) ≡ readThen s got (stepAt s c)
+pub read-step : (s got : List ℕ) (c : Cursor) → readFrom (length s) (paperLast (c .last)) got (elementsFrom (c .at) (drop (c .at) s)) ≡ readThen s got (stepAt s c)
 unfolding stepAt readFrom
 read-step s got c =
     by-order (c .at) (length s)
     (λ h. let r = runs s (c .at) h in
     rw (r .1 .step, next-place s (pastEnd s (r .0)) (past-within s (r .0) (r .1 .high)))
-    (then-over s got (lastOf (c .last)) (record { at = c .at; bytes = part s (c .at) (r .0); last = lastOfLine s (r .0) }) (pastEnd s (r .0)) _ refl))
+    (then-over s got (paperLast (c .last)) (record { at = c .at; bytes = part s (c .at) (r .0); last = lastOfLine s (r .0) }) (pastEnd s (r .0)) _ refl))
     λ h. rw (elements-last s (c .at) h)
 
 -- ---- a step over places goes ahead
@@ -279,20 +305,20 @@ pub record Ahead (s : List ℕ) (c : Cursor) (p n m : ℕ) (next : Cursor) : Typ
   pub low : Low p n m
   pub last : next .last ≡ Prefix p
 
-module _ (s : List ℕ) (c : Cursor) (p n m : ℕ) (next : Cursor) (b : Below (lastOf (c .last))) where
-  over : (after : ℕ) → c .at < length s → Runs s (c .at) after → (x : elements.Said) → said (lastOf (c .last)) (part s (c .at) after) ≡ x
+module _ (s : List ℕ) (c : Cursor) (p n m : ℕ) (next : Cursor) (b : Below (paperLast (c .last))) where
+  over : (after : ℕ) → c .at < length s → Runs s (c .at) after → (x : elements.Said) → said (paperLast (c .last)) (part s (c .at) after) ≡ x
       → stepOver (record { at = c .at; bytes = part s (c .at) after; last = lastOfLine s after }) (pastEnd s after) x ≡ Step.Covers p n m next → Ahead s c p n m next
   over after h r (elements.covers p′ n′ m′) q e =
       let to : record { at = pastEnd s after; last = Prefix p′ } ≡ next = cc in
       let ep : p′ ≡ p = cc in
       let en : n′ ≡ n = cc in
       let em : m′ ≡ m = cc in
-      let some-bytes : c .at < after = by-order (c .at) after (λ k. k) (λ k. let z : after - c .at ≡ 0 = omega arith in let none-said : elements.wrong ≡ elements.covers p′ n′ m′ = sym (said-empty (lastOf (c .last))) ∙ (rw z at q) in apart cc) in
+      let some-bytes : c .at < after = by-order (c .at) after (λ k. k) (λ k. let z : after - c .at ≡ 0 = omega arith in let none-said : elements.wrong ≡ elements.covers p′ n′ m′ = sym (said-empty (paperLast (c .last))) ∙ (rw z at q) in apart cc) in
       record {
         inside = h;
-        more = rw (← to) (omega arith);
+        more = rw (← to) (omega (arith, past-more s after));
         within = rw (← to) (past-within s after (r .high));
-        low = rw (← ep, ← en, ← em) (covers-low (lastOf (c .last)) (part s (c .at) after) p′ n′ m′ b q);
+        low = rw (← ep, ← en, ← em) (covers-low (paperLast (c .last)) (part s (c .at) after) p′ n′ m′ b q);
         last = ap (λ (k : Cursor). k .last) (sym to) ∙ ap Prefix ep;
       }
   over after h r (elements.purge t) q e = purged-no (lastOfLine s after) e
@@ -307,5 +333,5 @@ module _ (s : List ℕ) (c : Cursor) (p n m : ℕ) (next : Cursor) (b : Below (l
   step-ahead e =
       by-order (c .at) (length s)
       (λ h. let r = runs s (c .at) h in
-      over (r .0) h (r .1) (said (lastOf (c .last)) (part s (c .at) (r .0))) refl (rw (r .1 .step, next-place s (pastEnd s (r .0)) (past-within s (r .0) (r .1 .high))) at e))
+      over (r .0) h (r .1) (said (paperLast (c .last)) (part s (c .at) (r .0))) refl (rw (r .1 .step, next-place s (pastEnd s (r .0)) (past-within s (r .0) (r .1 .high))) at e))
       λ h. let f : Step.Wrong (length s) ≡ Step.Covers p n m next = rw (elements-last s (c .at) h) at e in apart cc

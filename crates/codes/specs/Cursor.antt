@@ -1,12 +1,12 @@
--- The reading place, and what the code's types mean.
+-- What the code's types mean, with the reading place, which moves forward one element at a time: it serves the code.
 use Prim.Native.Nat.{ℕ, _+_, _≤_}
 use mathlib.Core.Path.{_≡_}
 use mathlib.Core.List.{List, [], _∷_}
-use mathlib.Core.Bool.{Bool, true, false, _&&_, not}
+use mathlib.Core.Bool.{Bool, true, false, _||_}
 use mathlib.Core.Option.{Option, none, some}
 use lib.ListN.{length, drop}
-use lib.Dec.{eqb, ltb}
-use Rattle.lines.specs.Spans.{part, ending}
+use lib.Dec.{leb}
+use Rattle.lines.specs.Spans.{part, endingOf, ends}
 use Rattle.calendar.specs.declared.Stamp.{Stamp}
 use Rattle.codes.specs.Elements.{Element, elementsFrom, said}
 use Rattle.codes.specs.Elements as elements
@@ -18,9 +18,9 @@ use Rattle.codes.specs.declared.Cursor.{Cursor}
 use Rattle.codes.specs.declared.Step.{Step}
 
 -- "under the last prefix of this block", if there is one yet
-abbrev pub lastOf : Last → Option ℕ
-lastOf (Prefix p) = some p
-lastOf Nothing = none
+abbrev pub paperLast : Last → Option ℕ
+paperLast (Prefix p) = some p
+paperLast Nothing = none
 
 abbrev pub paperSaid : Said → elements.Said
 paperSaid (Covers p n m) = elements.covers p n m
@@ -49,12 +49,17 @@ stepOf stop last [] = Step.Wrong stop
 stepOf stop last (e ∷ es) = stepOver e (nextPlace stop es) (said last (e .bytes))
 
 -- ---- the element that starts at a place and runs up to another, and the elements after it
--- "A line of the block ends after a `-`": the next element stands behind the line's end
-abbrev pub pastEnd : List ℕ → ℕ → ℕ
-pastEnd text after = after + ending (drop after text)
+-- "A line of the block ends after a `-`": the next element stands behind the line's end, if one stands there
+abbrev pub afterEnd : ℕ → Option ℕ → ℕ
+afterEnd after none = after
+afterEnd after (some k) = after + k
 
+abbrev pub pastEnd : List ℕ → ℕ → ℕ
+pastEnd text after = afterEnd after (endingOf (drop after text))
+
+-- the line, or the text, ends there
 abbrev pub lastOfLine : List ℕ → ℕ → Bool
-lastOfLine text after = not (eqb (ending (drop after text)) 0 && ltb after (length text))
+lastOfLine text after = ends (endingOf (drop after text)) || leb (length text) after
 
 pub record Runs (text : List ℕ) (at after : ℕ) : Type 0 where
   pub low : at ≤ after
@@ -63,4 +68,4 @@ pub record Runs (text : List ℕ) (at after : ℕ) : Type 0 where
       ≡ record { at = at; bytes = part text at after; last = lastOfLine text after } ∷ elementsFrom (pastEnd text after) (drop (pastEnd text after) text)
 
 unfoldable pub stepAt : List ℕ → Cursor → Step
-stepAt text c = stepOf (length text) (lastOf (c .last)) (elementsFrom (c .at) (drop (c .at) text))
+stepAt text c = stepOf (length text) (paperLast (c .last)) (elementsFrom (c .at) (drop (c .at) text))

@@ -3,3 +3,4 @@ pub mod Elements
 pub mod Block
 pub mod Written
 pub mod Cursor
+pub mod Serving

@@ -61,15 +61,3 @@ isSet ps = leb 1 (length ps) && leb (length ps) capacity && ascends 0 ps
 unfoldable pub upward : ℕ → ℕ → List ℕ
 upward p zero = []
 upward p (suc n) = p ∷ upward (suc p) n
-
--- i is the first index of the list whose place is not less than p, or the list's length
-pub record First (p : ℕ) (l : List ℕ) (i : ℕ) : Type 0 where
-  pub within : i ≤ length l
-  pub low : (j : ℕ) → j < i → getD l j 0 < p
-  pub high : i < length l → p ≤ getD l i 0
-
--- a prefix, and numbers from one to another under it
-pub record Low (prefix first last : ℕ) : Type 0 where
-  pub known : prefix < prefixes
-  pub number : last ≤ 999
-  pub order : first ≤ last

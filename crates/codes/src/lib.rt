@@ -6,10 +6,12 @@ ghost use lib.Dec.{eqb};
 ghost use lib.ListN.{length, drop};
 ghost use Rattle.lines.specs.Bytes.{begins, exactly};
 ghost use Rattle.lines.specs.Lines.{prefixForm, threeDigits};
+ghost use Rattle.lines.specs.Spans.{endingOf, ends};
 ghost use Rattle.codes.specs.Places.{prefixOf, twoOf, threeOf};
 ghost use Rattle.codes.specs.Elements.{purgeForm, numbers, stampOf, time, said};
-ghost use Rattle.codes.specs.Cursor.{lastOf, paperSaid, Runs, stepAt};
+ghost use Rattle.codes.specs.Cursor.{paperLast, paperSaid, pastEnd, lastOfLine, Runs, stepAt};
 use calendar::Stamp;
+use lines::Ending;
 
 // The last prefix of this block.
 pub enum Last {
@@ -190,7 +192,7 @@ fn six_digits(e: &[u8]) -> bool
 
 // What the bytes of an element, with its `-`, say under the last prefix.
 fn read_element(e: &[u8], last: Last) -> Said
-    ensures { λ r. ⌜ paperSaid r ≡ said (lastOf last) (now (e .entry)) ⌝ }
+    ensures { λ r. ⌜ paperSaid r ≡ said (paperLast last) (now (e .entry)) ⌝ }
 {
     if six_digits(e) {
         return time(e);
@@ -208,6 +210,16 @@ fn read_element(e: &[u8], last: Last) -> Said
     numbers(lines::part(e, k, e.len()), p)
 }
 
+// Whether a line's end stands at i.
+fn ends_line(text: &[u8], i: usize) -> bool
+    ensures { λ r. ⌜ r ≡ ends (endingOf (drop i (now (text .entry)))) ⌝ }
+{
+    if let Ending::Length(_) = lines::find_ending(text, i) {
+        return true;
+    }
+    false
+}
+
 // The place after the element that starts at `at`: after its `-`, or at its line's end.
 fn element_end(text: &[u8], at: usize) -> usize
     requires { ⌜ at < length (now text) ⌝ }
@@ -215,16 +227,36 @@ fn element_end(text: &[u8], at: usize) -> usize
 {
     let mut i = at;
     while i < text.len() {
-        if text[i] == 45 {
+        if text[i] == b'-' {
             return i + 1;
         }
-        let k = lines::ending(text, i);
-        if k != 0 {
+        let ends = ends_line(text, i);
+        if ends {
             return i;
         }
         i += 1;
     }
     i
+}
+
+// The place of the element behind one that runs up to `after`: past the line's end, if one stands there.
+fn past_end(text: &[u8], after: usize) -> usize
+    ensures { λ r. ⌜ r ≡ pastEnd (now (text .entry)) after ⌝ }
+{
+    let Ending::Length(k) = lines::find_ending(text, after) else {
+        return after;
+    };
+    after + k
+}
+
+// Whether an element that runs up to `after` is the last of its line.
+fn is_last(text: &[u8], after: usize) -> bool
+    ensures { λ r. ⌜ r ≡ lastOfLine (now (text .entry)) after ⌝ }
+{
+    if ends_line(text, after) {
+        return true;
+    }
+    text.len() <= after
 }
 
 impl Cursor {
@@ -238,23 +270,20 @@ impl Cursor {
             return Step::Wrong(n);
         }
         let after = element_end(text, at);
-        let skip = lines::ending(text, after);
         let got = read_element(&text[at..after], last);
         match got {
-            Said::Covers(p, first, last) => Step::Covers(
-                p,
-                first,
-                last,
-                Cursor {
-                    at: after + skip,
+            Said::Covers(p, first, last) => {
+                let next = Cursor {
+                    at: past_end(text, after),
                     last: Last::Prefix(p),
-                },
-            ),
+                };
+                Step::Covers(p, first, last, next)
+            }
             Said::Purge(s) => {
-                if (skip == 0) & (after < n) {
-                    Step::Wrong(after)
-                } else {
+                if is_last(text, after) {
                     Step::Purge(s, at)
+                } else {
+                    Step::Wrong(after)
                 }
             }
             Said::Wrong => Step::Wrong(at),

@@ -2,82 +2,93 @@
 use Prim.Native.Nat.{ℕ, suc, _+_, _-_, _≤_, _<_, suc-le-suc}
 use native.Mathlib.Numerals.{add-one}
 use native.Mathlib.Omega.{arith}
-use mathlib.Core.Path.{_≡_, refl, sym, ap, _∙_, subst}
+use mathlib.Core.Path.{_≡_, refl, sym, ap, _∙_}
 use mathlib.Core.List.{List, [], _∷_}
 use mathlib.Core.Option.{Option, none, some}
-use mathlib.Core.Bool.{Bool, true, false, cond, _&&_, not, and-true, and-assoc}
+use mathlib.Core.Bool.{true, false, cond, _&&_, and-true, and-assoc}
 use lib.ListN.{length, getD, take, drop, length-drop, drop-of-length-le, List·getD-eq-default}
 use lib.Seq.{drop-cons, drop-drop}
-use lib.Dec.{eqb, ltb}
-use borrow.Author.Tests.{ne-eqb, eqb-true, ltb-true, ltb-false}
-use Rattle.laws.proofs.Tests.{by, by-order, impossible, apart}
+use lib.Dec.{eqb}
+use borrow.Author.Tests.{ne-eqb, eqb-true}
+use Rattle.laws.proofs.Tests.{by, by-order, apart}
 use Rattle.lines.specs.Bytes.{lf, word, begins, exactly}
 use Rattle.lines.specs.Lines.{pieces, lineEnd, bodyOf, Line, linesAt, linesFrom}
-use Rattle.lines.specs.Spans.{spanOf, spanAt, paperLined, part, ending}
+use Rattle.lines.specs.Spans.{spanOf, spanAt, paperLined, part, endingOf, paperEnding, ends}
 use Rattle.lines.specs.declared.Span.{Span}
 use Rattle.lines.specs.declared.Lined.{Lined}
 use Rattle.lines.specs.declared.Lined.the-variants as lined
+use Rattle.lines.specs.declared.Ending.{Ending}
+use Rattle.lines.specs.declared.Ending.the-variants as ending
 use Rattle.lines.proofs.Strings.{begins-is}
 
 -- ---- a line's end at a place, by the bytes there
 ending-is : (s : List ℕ) (i : ℕ)
-    → ending (drop i s)
-    ≡ cond (eqb (getD s i 0) 10) 1 (cond (eqb (getD s i 0) 13 && eqb (getD s (i + 1) 0) 10) 2 (cond (eqb (getD s i 0) 13 && eqb (getD s (i + 1) 0) 13 && eqb (getD s (i + 1 + 1) 0) 10) 3 0))
-unfolding ending
+    → endingOf (drop i s)
+    ≡ cond (eqb (getD s i 0) 10) (some 1)
+      (cond (eqb (getD s i 0) 13 && eqb (getD s (i + 1) 0) 10) (some 2) (cond (eqb (getD s i 0) 13 && eqb (getD s (i + 1) 0) 13 && eqb (getD s (i + 1 + 1) 0) 10) (some 3) none))
+unfolding endingOf
 ending-is s i =
     simp (begins-is (word "\n") s i (refl, tt), begins-is (word "\r\n") s i (refl, (refl, tt)), begins-is (word "\r\r\n") s i (refl, (refl, (refl, tt))), and-true, and-assoc)
 
 -- a byte above CR ends no line, and neither does the text's end
-pub no-end : (s : List ℕ) (i a : ℕ) → a ≡ getD s i 0 → 13 < a → 0 ≡ ending (drop i s)
+pub no-end : (s : List ℕ) (i a : ℕ) → a ≡ getD s i 0 → 13 < a → none ≡ endingOf (drop i s)
 no-end s i a ea h = simp (ending-is, ← ea, ne-eqb a 10 (omega arith), ne-eqb a 13 (omega arith))
 
-pub past-end : (s : List ℕ) (i : ℕ) → length s ≤ i → 0 ≡ ending (drop i s)
+pub past-end : (s : List ℕ) (i : ℕ) → length s ≤ i → none ≡ endingOf (drop i s)
 past-end s i h = simp (ending-is, List·getD-eq-default s 0 h)
 
 module _ (s : List ℕ) (i a b c : ℕ) (ea : a ≡ getD s i 0) (eb : b ≡ getD s (i + 1) 0) (ec : c ≡ getD s (i + 2) 0) where
   third : c ≡ getD s (i + 1 + 1) 0
   third = let e : i + 1 + 1 ≡ i + 2 = omega arith in rw e ec
 
-  pub end-1 : a ≡ 10 → 1 ≡ ending (drop i s)
+  pub end-1 : a ≡ 10 → some 1 ≡ endingOf (drop i s)
   end-1 h = simp (ending-is, ← ea, h)
 
   module _ (h : a ≡ 10 → ⊥) where
-    pub end-2 : (eqb a 13 && eqb b 10) ≡ true → 2 ≡ ending (drop i s)
+    pub end-2 : (eqb a 13 && eqb b 10) ≡ true → some 2 ≡ endingOf (drop i s)
     end-2 k = simp (ending-is, ← ea, ← eb, ← third, ne-eqb a 10 h, k)
 
     module _ (k : (eqb a 13 && eqb b 10) ≡ false) where
-      pub end-3 : (eqb a 13 && eqb b 13 && eqb c 10) ≡ true → 3 ≡ ending (drop i s)
+      pub end-3 : (eqb a 13 && eqb b 13 && eqb c 10) ≡ true → some 3 ≡ endingOf (drop i s)
       end-3 m = simp (ending-is, ← ea, ← eb, ← third, ne-eqb a 10 h, k, m)
 
-      pub end-4 : (eqb a 13 && eqb b 13 && eqb c 10) ≡ false → 0 ≡ ending (drop i s)
+      pub end-4 : (eqb a 13 && eqb b 13 && eqb c 10) ≡ false → none ≡ endingOf (drop i s)
       end-4 m = simp (ending-is, ← ea, ← eb, ← third, ne-eqb a 10 h, k, m)
+
+-- what was found: the end's length, or that none stands there
+module _ (o : Option ℕ) (r : Ending) (e : paperEnding r ≡ o) where
+  pub ending-length : (k : ℕ) → r ≡ ending.Length k → o ≡ some k
+  ending-length k q = sym e ∙ ap paperEnding q
+
+  pub ending-none : r ≡ ending.Nothing → o ≡ none
+  ending-none q = sym e ∙ ap paperEnding q
 
 -- A view: what stands where a line's end does. To prove P of such a list, prove it of the three ends.
 module _ (P : List ℕ → ℕ → Type 0) (one : (t : List ℕ) → P (10 ∷ t) 1) (two : (t : List ℕ) → P (13 ∷ 10 ∷ t) 2) (three : (t : List ℕ) → P (13 ∷ 13 ∷ 10 ∷ t) 3) where
-  at-third : (u : List ℕ) → (ending (13 ∷ 13 ∷ u) ≡ 0 → ⊥) → P (13 ∷ 13 ∷ u) (ending (13 ∷ 13 ∷ u))
-  unfolding ending begins
-  at-third [] h = absurd (h refl)
-  at-third (d ∷ v) h =
-      by (eqb d 10) (λ p. subst (λ (d : ℕ). P (13 ∷ 13 ∷ d ∷ v) (ending (13 ∷ 13 ∷ d ∷ v))) (sym (eqb-true d 10 p)) (three v))
-      λ p. absurd (h (simp p))
+  at-third : (u : List ℕ) (k : ℕ) → endingOf (13 ∷ 13 ∷ u) ≡ some k → P (13 ∷ 13 ∷ u) k
+  unfolding endingOf begins
+  at-third [] k h = apart cc
+  at-third (d ∷ v) k h =
+      by (eqb d 10) (λ p. let z : some 3 ≡ some k = simp p at h in let e : 3 ≡ k = cc in rw (← e, eqb-true d 10 p) (three v))
+      λ p. let z : none ≡ some k = simp p at h in apart cc
 
-  at-second : (u : List ℕ) → (ending (13 ∷ u) ≡ 0 → ⊥) → P (13 ∷ u) (ending (13 ∷ u))
-  unfolding ending begins
-  at-second [] h = absurd (h refl)
-  at-second (d ∷ v) h =
-      by (eqb d 10) (λ p. subst (λ (d : ℕ). P (13 ∷ d ∷ v) (ending (13 ∷ d ∷ v))) (sym (eqb-true d 10 p)) (two v))
+  at-second : (u : List ℕ) (k : ℕ) → endingOf (13 ∷ u) ≡ some k → P (13 ∷ u) k
+  unfolding endingOf begins
+  at-second [] k h = apart cc
+  at-second (d ∷ v) k h =
+      by (eqb d 10) (λ p. let z : some 2 ≡ some k = simp p at h in let e : 2 ≡ k = cc in rw (← e, eqb-true d 10 p) (two v))
       λ p. by (eqb d 13)
-      (λ q. let e = eqb-true d 13 q in subst (λ (d : ℕ). P (13 ∷ d ∷ v) (ending (13 ∷ d ∷ v))) (sym e) (at-third v (λ z. h (rw e z))))
-      λ q. absurd (h (simp (p, q)))
+      (λ q. let e : d ≡ 13 = eqb-true d 13 q in rw e (at-third v k (rw e at h)))
+      λ q. let z : none ≡ some k = simp (p, q) at h in apart cc
 
-  pub end-case : (u : List ℕ) → (ending u ≡ 0 → ⊥) → P u (ending u)
-  unfolding ending begins
-  end-case [] h = absurd (h refl)
-  end-case (d ∷ v) h =
-      by (eqb d 10) (λ p. subst (λ (d : ℕ). P (d ∷ v) (ending (d ∷ v))) (sym (eqb-true d 10 p)) (one v))
+  pub end-case : (u : List ℕ) (k : ℕ) → endingOf u ≡ some k → P u k
+  unfolding endingOf begins
+  end-case [] k h = apart cc
+  end-case (d ∷ v) k h =
+      by (eqb d 10) (λ p. let z : some 1 ≡ some k = simp p at h in let e : 1 ≡ k = cc in rw (← e, eqb-true d 10 p) (one v))
       λ p. by (eqb d 13)
-      (λ q. let e = eqb-true d 13 q in subst (λ (d : ℕ). P (d ∷ v) (ending (d ∷ v))) (sym e) (at-second v (λ z. h (rw e z))))
-      λ q. absurd (h (simp (p, q)))
+      (λ q. let e : d ≡ 13 = eqb-true d 13 q in rw e (at-second v k (rw e at h)))
+      λ q. let z : none ≡ some k = simp (p, q) at h in apart cc
 
 -- ---- the first piece of a text: up to and with its first `sep`
 unfoldable pub firstPiece : ℕ → List ℕ → List ℕ
@@ -100,30 +111,25 @@ unfolding firstPiece
 first-at sep s i h = rw (add-one, drop-cons s i 0 h)
 
 -- its end is the line's end that stands where none of its bytes does
-end-first : (b : ℕ) (s : List ℕ) → eqb b 10 ≡ false → lineEnd (b ∷ firstPiece lf s) ≡ not (eqb (ending (b ∷ s)) 0)
-unfolding lineEnd exactly ending begins firstPiece
+end-first : (b : ℕ) (s : List ℕ) → eqb b 10 ≡ false → lineEnd (b ∷ firstPiece lf s) ≡ ends (endingOf (b ∷ s))
+unfolding lineEnd exactly endingOf begins firstPiece
 end-first b s p = by (eqb b 13) (λ q. let e = eqb-true b 13 q in rw e (second s)) (λ q. simp (p, q))
   where
-    third : (u : List ℕ) → lineEnd (13 ∷ 13 ∷ firstPiece lf u) ≡ not (eqb (ending (13 ∷ 13 ∷ u)) 0)
+    third : (u : List ℕ) → lineEnd (13 ∷ 13 ∷ firstPiece lf u) ≡ ends (endingOf (13 ∷ 13 ∷ u))
     third [] = refl
     third (e ∷ v) = by (eqb e 10) (λ p. simp p) (λ p. simp p)
 
-    second : (u : List ℕ) → lineEnd (13 ∷ firstPiece lf u) ≡ not (eqb (ending (13 ∷ u)) 0)
+    second : (u : List ℕ) → lineEnd (13 ∷ firstPiece lf u) ≡ ends (endingOf (13 ∷ u))
     second [] = refl
     second (d ∷ v) = by (eqb d 10) (λ p. simp p) (λ p. by (eqb d 13) (λ q. let e = eqb-true d 13 q in rw e (third v)) (λ q. simp (p, q)))
 
-body-lf : (s : List ℕ) → bodyOf (firstPiece lf (10 ∷ s)) ≡ cond (eqb (ending (10 ∷ s)) 0) (10 ∷ bodyOf (firstPiece lf s)) []
-unfolding bodyOf firstPiece ending begins lineEnd exactly
+body-lf : (s : List ℕ) → bodyOf (firstPiece lf (10 ∷ s)) ≡ cond (ends (endingOf (10 ∷ s))) [] (10 ∷ bodyOf (firstPiece lf s))
+unfolding bodyOf firstPiece endingOf begins lineEnd exactly
 body-lf s = refl
 
-body-first : (b : ℕ) (s : List ℕ) → bodyOf (firstPiece lf (b ∷ s)) ≡ cond (eqb (ending (b ∷ s)) 0) (b ∷ bodyOf (firstPiece lf s)) []
+body-first : (b : ℕ) (s : List ℕ) → bodyOf (firstPiece lf (b ∷ s)) ≡ cond (ends (endingOf (b ∷ s))) [] (b ∷ bodyOf (firstPiece lf s))
 unfolding bodyOf firstPiece
-body-first b s =
-    by (eqb b 10) (λ p. let e = eqb-true b 10 p in rw e (body-lf s)) (λ p. rw (p, end-first b s p) (turn (eqb (ending (b ∷ s)) 0)))
-  where
-    turn : (t : Bool) → cond (not t) [] (b ∷ bodyOf (firstPiece lf s)) ≡ cond t (b ∷ bodyOf (firstPiece lf s)) []
-    turn true = refl
-    turn false = refl
+body-first b s = by (eqb b 10) (λ p. let e = eqb-true b 10 p in rw e (body-lf s)) (λ p. rw (p, end-first b s p))
 
 -- ---- the line that starts at a place: where its bytes end, and where the next line starts
 unfoldable pub endOf : List ℕ → ℕ → ℕ
@@ -132,15 +138,15 @@ endOf s at = at + length (bodyOf (firstPiece lf (drop at s)))
 unfoldable pub nextOf : List ℕ → ℕ → ℕ
 nextOf s at = at + length (firstPiece lf (drop at s))
 
-pub body-at : (s : List ℕ) (i : ℕ) → i < length s → bodyOf (firstPiece lf (drop i s)) ≡ cond (eqb (ending (drop i s)) 0) (getD s i 0 ∷ bodyOf (firstPiece lf (drop (i + 1) s))) []
+pub body-at : (s : List ℕ) (i : ℕ) → i < length s → bodyOf (firstPiece lf (drop i s)) ≡ cond (ends (endingOf (drop i s))) [] (getD s i 0 ∷ bodyOf (firstPiece lf (drop (i + 1) s)))
 body-at s i h = rw (add-one, drop-cons s i 0 h) (body-first (getD s i 0) (drop (suc i) s))
 
-first-end : (u : List ℕ) → (ending u ≡ 0 → ⊥) → length (firstPiece lf u) ≡ ending u
+first-end : (u : List ℕ) (k : ℕ) → endingOf u ≡ some k → length (firstPiece lf u) ≡ k
 unfolding firstPiece
-first-end u h = end-case (λ t k. length (firstPiece lf t) ≡ k) (λ t. refl) (λ t. refl) (λ t. refl) u h
+first-end = end-case (λ t k. length (firstPiece lf t) ≡ k) (λ t. refl) (λ t. refl) (λ t. refl)
 
-pub no-lf : (s : List ℕ) (i : ℕ) → ending (drop i s) ≡ 0 → eqb (getD s i 0) 10 ≡ false
-no-lf s i e = by (eqb (getD s i 0) 10) (λ p. let z : _≡_ {A = ℕ} 1 0 = rw (ending-is, p) at e in apart (sym z)) (λ p. p)
+pub no-lf : (s : List ℕ) (i : ℕ) → endingOf (drop i s) ≡ none → eqb (getD s i 0) 10 ≡ false
+no-lf s i e = by (eqb (getD s i 0) 10) (λ p. let z : some 1 ≡ none = rw (ending-is, p) at e in apart cc) (λ p. p)
 
 module _ (s : List ℕ) (i : ℕ) where
   pub end-last : length s ≤ i → endOf s i ≡ i
@@ -151,33 +157,38 @@ module _ (s : List ℕ) (i : ℕ) where
   unfolding nextOf firstPiece
   next-last h = rw (drop-of-length-le s h) (omega arith)
 
-  module _ (h : i < length s) (k : ℕ) (e : k ≡ ending (drop i s)) where
-    pub end-here : (k ≡ 0 → ⊥) → endOf s i ≡ i
+  -- a line's end has bytes
+  pub end-bytes : (k : ℕ) → endingOf (drop i s) ≡ some k → i < length s
+  end-bytes k e = by-order i (length s) (λ h. h) (λ h. let z : none ≡ some k = past-end s i h ∙ e in apart cc)
+
+  module _ (k : ℕ) (e : endingOf (drop i s) ≡ some k) where
+    pub end-here : endOf s i ≡ i
     unfolding endOf
-    end-here n = simp (body-at s i h, ← e, ne-eqb k 0 n) (omega arith)
+    end-here = simp (body-at s i (end-bytes k e), e) (omega arith)
 
-    pub next-here : (k ≡ 0 → ⊥) → nextOf s i ≡ i + k
+    pub next-here : nextOf s i ≡ i + k
     unfolding nextOf
-    next-here n = rw (first-end (drop i s) (λ z. n (e ∙ z)), ← e)
+    next-here = rw (first-end (drop i s) k e)
 
-    pub end-on : k ≡ 0 → endOf s i ≡ endOf s (i + 1)
+  module _ (h : i < length s) (e : endingOf (drop i s) ≡ none) where
+    pub end-on : endOf s i ≡ endOf s (i + 1)
     unfolding endOf
-    end-on z = simp (body-at s i h, ← e, z) (omega arith)
+    end-on = simp (body-at s i h, e) (omega arith)
 
-    pub next-on : k ≡ 0 → nextOf s i ≡ nextOf s (i + 1)
+    pub next-on : nextOf s i ≡ nextOf s (i + 1)
     unfolding nextOf
-    next-on z = simp (first-at lf s i h, no-lf s i (sym e ∙ z)) (omega arith)
+    next-on = simp (first-at lf s i h, no-lf s i e) (omega arith)
 
 -- ---- a line is a part of the text
 body-length : (t : List ℕ) → length (bodyOf (firstPiece lf t)) ≤ length t
 unfolding bodyOf firstPiece
 body-length [] = omega arith
-body-length (b ∷ t) = rw (body-first b t) (by (eqb (ending (b ∷ t)) 0) (λ p. rw p (suc-le-suc (body-length t))) (λ p. rw p (omega arith)))
+body-length (b ∷ t) = rw (body-first b t) (by (ends (endingOf (b ∷ t))) (λ p. rw p (omega arith)) (λ p. rw p (suc-le-suc (body-length t))))
 
 body-take : (t : List ℕ) → take (length (bodyOf (firstPiece lf t))) t ≡ bodyOf (firstPiece lf t)
 unfolding bodyOf firstPiece
 body-take [] = refl
-body-take (b ∷ t) = rw (body-first b t) (by (eqb (ending (b ∷ t)) 0) (λ p. rw p (ap (λ (r : List ℕ). b ∷ r) (body-take t))) (λ p. rw p))
+body-take (b ∷ t) = rw (body-first b t) (by (ends (endingOf (b ∷ t))) (λ p. rw p) (λ p. rw p (ap (λ (r : List ℕ). b ∷ r) (body-take t))))
 
 pub end-within : (s : List ℕ) (at : ℕ) → at ≤ length s → endOf s at ≤ length s
 unfolding endOf
@@ -256,9 +267,8 @@ module _ (s : List ℕ) (at i : ℕ) (v : InLine s at i) where
   pub in-last : at < length s → length s ≤ i → some (record { start = at; end = i; next = i }) ≡ spanAt s at
   in-last t h = spans t i i (end-last s i h) (next-last s i h)
 
-  module _ (h : i < length s) (k : ℕ) (e : k ≡ ending (drop i s)) where
-    pub in-on : k ≡ 0 → InLine s at (i + 1)
-    in-on z = record { low = omega (arith, v .low); ends = v .ends ∙ end-on s i h k e z; goes = v .goes ∙ next-on s i h k e z }
+  pub in-on : i < length s → endingOf (drop i s) ≡ none → InLine s at (i + 1)
+  in-on h e = record { low = omega (arith, v .low); ends = v .ends ∙ end-on s i h e; goes = v .goes ∙ next-on s i h e }
 
-    pub in-here : (k ≡ 0 → ⊥) → some (record { start = at; end = i; next = i + k }) ≡ spanAt s at
-    in-here n = spans (omega (arith, v .low)) i (i + k) (end-here s i h k e n) (next-here s i h k e n)
+  pub in-here : (k : ℕ) → endingOf (drop i s) ≡ some k → some (record { start = at; end = i; next = i + k }) ≡ spanAt s at
+  in-here k e = spans (omega (arith, v .low, end-bytes s i k e)) i (i + k) (end-here s i k e) (next-here s i k e)

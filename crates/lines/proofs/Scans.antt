@@ -1,21 +1,26 @@
 -- Printable bytes at the front of a text, and what holds behind them. Assumes nothing.
-use Prim.Native.Nat.{ℕ, zero, suc, _+_, _-_, _≤_, _<_, suc-le-suc}
+use Prim.Native.Nat.{ℕ, zero, suc, _+_, _-_, _^_, _≤_, _<_, suc-le-suc}
 use native.Mathlib.Numerals.{add-one}
 use native.Mathlib.Omega.{arith}
 use mathlib.Core.Path.{_≡_, refl, sym, ap, _∙_}
 use mathlib.Core.List.{List, [], _∷_}
 use mathlib.Core.Bool.{Bool, true, false, cond, _&&_}
+use mathlib.Core.Option.{none, some}
+use mir.Syntax.{w64}
+use mir.Val.{Fits}
 use lib.ListN.{length, getD, drop, length-drop}
 use lib.Seq.{drop-cons, drop-drop}
 use lib.Dec.{leb}
 use borrow.Author.Tests.{leb-true, leb-false, le-leb, lt-leb}
 use Rattle.laws.proofs.Tests.{by, by-order, impossible, and-left}
 use Rattle.lines.specs.Bytes.{between}
-use Rattle.lines.specs.Spans.{ending, spanAt, paperLined}
+use Rattle.lines.specs.Spans.{spanAt, paperLined, endingOf, paperEnding}
 use Rattle.lines.specs.Printables.{printables, Skipped}
 use Rattle.lines.specs.declared.Lined.{Lined}
 use Rattle.lines.specs.declared.Lined.the-variants as lined
-use Rattle.lines.proofs.Ends.{no-end, span-none, InLine, in-start, in-on, in-here, in-last}
+use Rattle.lines.specs.declared.Ending.{Ending}
+use Rattle.lines.specs.declared.Ending.the-variants as ending
+use Rattle.lines.proofs.Ends.{no-end, end-bytes, next-here, next-within, ending-length, ending-none, span-none, InLine, in-start, in-on, in-here, in-last}
 
 -- ---- at the front
 most : (s : List ℕ) → printables s ≤ length s
@@ -124,8 +129,8 @@ over s P f (suc n) i h p =
     λ l. impossible (omega (arith, rest s i))
 
 -- what is printable ends no line
-pub printable-is : (s : List ℕ) (i : ℕ) → between 32 126 (getD s i 0) ≡ true → 0 ≡ ending (drop i s)
-printable-is s i y = no-end s i (getD s i 0) refl (omega (arith, leb-true 32 (getD s i 0) (and-left (leb 32 (getD s i 0)) (leb (getD s i 0) 126) y)))
+pub printable-is : (s : List ℕ) (i : ℕ) → between 32 126 (getD s i 0) ≡ true → endingOf (drop i s) ≡ none
+printable-is s i y = sym (no-end s i (getD s i 0) refl (omega (arith, leb-true 32 (getD s i 0) (and-left (leb 32 (getD s i 0)) (leb (getD s i 0) 126) y))))
 
 module _ (s : List ℕ) (i e : ℕ) (is : e ≡ i + printables (drop i s)) where
   pub stops : e < length s → between 32 126 (getD s e 0) ≡ false
@@ -135,7 +140,14 @@ module _ (s : List ℕ) (i e : ℕ) (is : e ≡ i + printables (drop i s)) where
 
   -- a line goes on behind its printable bytes
   pub in-over : (at : ℕ) → InLine s at i → InLine s at e
-  in-over at v = rw is (over s (InLine s at) (λ j l p v. in-on s at j v l 0 (printable-is s j p) refl) (printables (drop i s)) i (omega arith) v)
+  in-over at v = rw is (over s (InLine s at) (λ j l p v. in-on s at j v l (printable-is s j p)) (printables (drop i s)) i (omega arith) v)
+
+-- a line's end is a part of the text
+pub end-fits : (s : List ℕ) (i : ℕ) → length s < 2 ^ 64 → (f : Ending) → paperEnding f ≡ endingOf (drop i s) → (k : ℕ) → f ≡ ending.Length k → Fits w64 (i + k)
+end-fits s i h f e k q =
+    let z : endingOf (drop i s) ≡ some k = ending-length (endingOf (drop i s)) f e k q in
+    let l : i < length s = end-bytes s i k z in
+    omega (arith, next-here s i k z, next-within s i (omega arith))
 
 -- ---- a search for a line's end, over printable bytes at once: i stands in the line that starts at `at`
 pub record Inside (s : List ℕ) (at i : ℕ) : Type 0 where
@@ -153,10 +165,10 @@ module _ (s : List ℕ) (at i : ℕ) (v : Inside s at i) (e : ℕ) (is : e ≡ i
   pub inside-last : length s ≤ e → (r : Lined) → r ≡ lined.Line (record { start = at; end = e; next = e }) → paperLined r ≡ spanAt s at
   inside-last h r q = ap paperLined q ∙ in-last s at e (in-over s i e is at (v .line)) (v .there) h
 
-  module _ (h : e < length s) (k : ℕ) (ek : k ≡ ending (drop e s)) where
-    pub inside-here : (k ≡ 0 → ⊥) → (r : Lined) → r ≡ lined.Line (record { start = at; end = e; next = e + k }) → paperLined r ≡ spanAt s at
-    inside-here n r q = ap paperLined q ∙ in-here s at e (in-over s i e is at (v .line)) h k ek n
+  module _ (h : e < length s) (f : Ending) (ef : paperEnding f ≡ endingOf (drop e s)) where
+    pub inside-here : (k : ℕ) → f ≡ ending.Length k → (r : Lined) → r ≡ lined.Line (record { start = at; end = e; next = e + k }) → paperLined r ≡ spanAt s at
+    inside-here k z r q = ap paperLined q ∙ in-here s at e (in-over s i e is at (v .line)) k (ending-length (endingOf (drop e s)) f ef k z)
 
     -- a byte that is not printable and ends no line
-    pub inside-next : k ≡ 0 → Inside s at (e + 1)
-    inside-next z = record { there = v .there; within = omega arith; line = in-on s at e (in-over s i e is at (v .line)) h k ek z }
+    pub inside-next : f ≡ ending.Nothing → Inside s at (e + 1)
+    inside-next z = record { there = v .there; within = omega arith; line = in-on s at e (in-over s i e is at (v .line)) h (ending-none (endingOf (drop e s)) f ef z) }

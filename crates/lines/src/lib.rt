@@ -8,7 +8,7 @@ ghost use Rattle.refusal.specs.Answer.{refusalFor, paperVerdict};
 ghost use Rattle.lines.specs.Bytes.{between, capital, digit, literally, begins};
 ghost use Rattle.lines.specs.Lines.{blank, isEnd, opens};
 ghost use Rattle.lines.specs.Check.{checkText};
-ghost use Rattle.lines.specs.Spans.{spanAt, paperLined, part, ending};
+ghost use Rattle.lines.specs.Spans.{spanAt, paperLined, part, endingOf, paperEnding};
 ghost use Rattle.lines.specs.Printables.{printables, Skipped};
 use refusal::Refusal;
 use refusal::Verdict;
@@ -23,6 +23,12 @@ pub struct Span {
 // The line that was asked for, or none.
 pub enum Lined {
     Line(Span),
+    Nothing,
+}
+
+// How many bytes a line's end has, or that none stands there.
+pub enum Ending {
+    Length(usize),
     Nothing,
 }
 
@@ -68,31 +74,30 @@ pub fn part(text: &[u8], from: usize, to: usize) -> &[u8]
     &text[from..to]
 }
 
-// How many bytes the line's end at i has: LF, CR LF or CR CR LF; 0 where none stands there.
-pub fn ending(text: &[u8], i: usize) -> usize
-    ensures is { λ r. ⌜ r ≡ ending (drop i (now (text .entry))) ⌝ }
-    ensures most { λ r. ⌜ r ≤ 3 ⌝ }
+// How many bytes the line's end at i has, if one stands there: LF, CR LF or CR CR LF.
+pub fn find_ending(text: &[u8], i: usize) -> Ending
+    ensures { λ r. ⌜ paperEnding r ≡ endingOf (drop i (now (text .entry))) ⌝ }
 {
     let a = byte(text, i);
     // Most bytes of a text end no line.
     if 13 < a {
-        return 0;
+        return Ending::Nothing;
     }
     if text.len() <= i {
-        return 0;
+        return Ending::Nothing;
     }
     let b = byte(text, i + 1);
     let c = byte(text, i + 2);
     if a == 10 {
-        return 1;
+        return Ending::Length(1);
     }
     if (a == 13) & (b == 10) {
-        return 2;
+        return Ending::Length(2);
     }
     if (a == 13) & (b == 13) & (c == 10) {
-        return 3;
+        return Ending::Length(3);
     }
-    0
+    Ending::Nothing
 }
 
 // Whether the w bytes from i on are printable. None of them ends the loop, so that all of them are looked at together.
@@ -176,8 +181,7 @@ pub fn find_line(text: &[u8], at: usize) -> Lined
         if text.len() <= end {
             return line(at, end, end);
         }
-        let k = ending(text, end);
-        if k != 0 {
+        if let Ending::Length(k) = find_ending(text, end) {
             return line(at, end, end + k);
         }
         // A byte that is not printable and ends no line: the line goes on behind it.
@@ -261,10 +265,9 @@ pub fn check_text(text: &[u8]) -> Verdict
         if 132 < end - start {
             return wrong(start + 132);
         }
-        let k = ending(text, end);
-        if k == 0 {
+        let Ending::Length(k) = find_ending(text, end) else {
             return wrong(end);
-        }
+        };
         start = end + k;
     }
     Verdict::Accepted

@@ -7,10 +7,11 @@ use mathlib.Core.Bool.{Bool, true, false, not}
 use borrow.Author.Tests.{not-true, not-false}
 use lib.ListN.{length, drop}
 use Rattle.calendar.specs.declared.Stamp.{Stamp}
-use Rattle.codes.specs.Places.{placeOf, nil, Low}
+use Rattle.codes.specs.Places.{placeOf, nil}
+use Rattle.codes.specs.Serving.{Low}
 use Rattle.codes.specs.Elements.{elementsFrom}
 use Rattle.codes.specs.Block.{insertRun, insertCovered, readFrom, readBlock}
-use Rattle.codes.specs.Cursor.{lastOf, stepAt}
+use Rattle.codes.specs.Cursor.{paperLast, stepAt}
 use Rattle.codes.specs.declared.Last.the-variants.{Nothing}
 use Rattle.codes.specs.declared.Cursor.{Cursor}
 use Rattle.codes.specs.declared.Step.{Step}
@@ -30,8 +31,8 @@ pub record Reads (s : List ℕ) (at : ℕ) (c : Cursor) (t : Places) : Type 0 wh
   pub got : List ℕ
   pub good : Good t
   pub held : heldBy t ≡ capped got
-  pub known : Below (lastOf (c .last))
-  pub same : readFrom (length s) (lastOf (c .last)) got (elementsFrom (c .at) (drop (c .at) s)) ≡ readBlock s at
+  pub known : Below (paperLast (c .last))
+  pub same : readFrom (length s) (paperLast (c .last)) got (elementsFrom (c .at) (drop (c .at) s)) ≡ readBlock s at
 
 pub reads-start : (s : List ℕ) (at : ℕ) (held : List ℕ) → length held ≡ 120 → Reads s at (record { at = at; last = Nothing }) (record { held = held; count = 0; over = false })
 unfolding readBlock

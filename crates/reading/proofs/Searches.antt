@@ -9,7 +9,8 @@ use lib.Seq.{getD-take, length-take-le}
 use lib.Dec.{ltb}
 use borrow.Author.Tests.{ltb-true, lt-ltb}
 use Rattle.laws.proofs.Tests.{impossible, by-order, and-left, and-right, same-test}
-use Rattle.codes.specs.Places.{Ascending, nil, cons, First}
+use Rattle.codes.specs.Places.{Ascending, nil, cons}
+use Rattle.codes.specs.Serving.{First}
 use Rattle.reading.specs.Runs.{allBelow}
 
 -- ---- places that ascend

@@ -13,7 +13,8 @@ use borrow.Author.Tests.{le-leb, lt-leb}
 use Rattle.laws.proofs.Tests.{by-order, impossible, apart}
 use Rattle.laws.proofs.Lists.{drop-take}
 use Rattle.laws.proofs.Pastes.{up-turn}
-use Rattle.codes.specs.Places.{placesEnd, upward, First}
+use Rattle.codes.specs.Places.{placesEnd, upward}
+use Rattle.codes.specs.Serving.{First}
 use Rattle.codes.specs.Block.{insertRun}
 use Rattle.codes.proofs.Members.{run-split, below-take, from-drop, run-length, run-ascending}
 use Rattle.reading.specs.Held.{capped, listOf, heldBy, Good}

@@ -13,7 +13,7 @@ use Rattle.codes.specs.Places.{upward}
 use Rattle.writing.specs.Ink.{open-one, inkFrom}
 use Rattle.writing.proofs.Ink.{at-end, at-gap, joins-next, open-next, upward-next, elements-close, parted-few, ink-end}
 use Rattle.writing.specs.Pen.{Stored, inkMost, Inked, ahead, FineState, Turned, closing, Closed}
-use Rattle.codes.specs.Cursor.{lastOf}
+use Rattle.codes.specs.Cursor.{paperLast}
 use Rattle.codes.specs.declared.Last.the-variants as last
 use Rattle.writing.specs.declared.Pen.{Pen}
 use Rattle.writing.specs.declared.State.{State}
@@ -22,7 +22,7 @@ use Rattle.writing.proofs.Inking.{inked-none, inked-on}
 
 -- the elements of the open run
 abbrev ofRun : State → List (List ℕ)
-ofRun s = elementsOf (lastOf (s .last)) (parted (s .lo) (s .more))
+ofRun s = elementsOf (paperLast (s .last)) (parted (s .lo) (s .more))
 
 module _ (a : List ℕ) (s : State) (fine : FineState s) (q : ℕ) (h : q < placesEnd) (t : Bool) (e : t ≡ joins (s .lo + s .more) q) where
   pub turn-join : t ≡ true → Turned a a s (record { pen = s .pen; last = s .last; lo = s .lo; more = s .more + 1 }) q
@@ -33,7 +33,7 @@ module _ (a : List ℕ) (s : State) (fine : FineState s) (q : ℕ) (h : q < plac
       record {
         done = [];
         inked = inked-none a (s .pen) (fine .low);
-        keeps = λ qs. ap (λ (ps : List ℕ). elementsOf (lastOf (s .last)) (spansOf (runsOf ps)))
+        keeps = λ qs. ap (λ (ps : List ℕ). elementsOf (paperLast (s .last)) (spansOf (runsOf ps)))
             (rw (m, add-one) (upward-next (s .lo) (suc (s .more)) qs));
         fine = record { joined = rw add-one (open-next (fine .joined) (rw (← n) at j)); below = omega arith; low = fine .low };
         few = omega arith;
@@ -46,9 +46,9 @@ module _ (a : List ℕ) (s : State) (fine : FineState s) (q : ℕ) (h : q < plac
       record {
         done = ofRun s;
         inked = d;
-        keeps = λ qs. elements-close (lastOf (s .last)) (fine .joined) (q ∷ qs) (at-gap (sym e ∙ k));
+        keeps = λ qs. elements-close (paperLast (s .last)) (fine .joined) (q ∷ qs) (at-gap (sym e ∙ k));
         fine = record { joined = open-one; below = omega arith; low = d .low };
-        few = omega (arith, parted-few (lastOf (s .last)) (s .lo) (s .more));
+        few = omega (arith, parted-few (paperLast (s .last)) (s .lo) (s .more));
       }
 
 module _ (a c : List ℕ) (s : State) (r : Pen) (stamp : Stamp) (fine : FineState s) where
@@ -56,7 +56,7 @@ module _ (a c : List ℕ) (s : State) (r : Pen) (stamp : Stamp) (fine : FineStat
   closing-is : (w : Inked a c (s .pen) r (ofRun s ++ (purgeElement stamp ∷ []))) → closing s stamp ≡ w .ink ++ bytes "\r\r\n"
   unfolding runsOf spansOf elementsOf
   closing-is w =
-      let run : ahead s [] ≡ ofRun s = elements-close (lastOf (s .last)) (fine .joined) [] at-end ∙ append-nil (ofRun s) in
+      let run : ahead s [] ≡ ofRun s = elements-close (paperLast (s .last)) (fine .joined) [] at-end ∙ append-nil (ofRun s) in
       ap (λ (es : List (List ℕ)). inkFrom (s .pen .col) (es ++ (purgeElement stamp ∷ []))) run ∙ rw (append-nil, ink-end) at (w .goes [])
 
   pub closed : (b : List ℕ) (p : Pen) → Inked a b (s .pen) p (ofRun s) → p .pos ≤ s .pen .pos + 2 * inkMost

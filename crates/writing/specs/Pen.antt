@@ -9,7 +9,7 @@ use Rattle.codes.specs.Places.{placesEnd}
 use Rattle.codes.specs.Written.{Run, runsOf, spansOf, elementsOf, purgeElement, writtenMost}
 use Rattle.codes.specs.Places.{upward}
 use Rattle.writing.specs.Ink.{Open, inkFrom}
-use Rattle.codes.specs.Cursor.{lastOf}
+use Rattle.codes.specs.Cursor.{paperLast}
 use Rattle.writing.specs.declared.Pen.{Pen}
 use Rattle.writing.specs.declared.State.{State}
 
@@ -51,7 +51,7 @@ pub record Inked (a b : List ℕ) (p r : Pen) (es : List (List ℕ)) : Type 0 wh
 -- ---- an open run
 -- the elements that are still to be written: those of the open run and of the places qs after it
 abbrev pub ahead : State → List ℕ → List (List ℕ)
-ahead s qs = elementsOf (lastOf (s .last)) (spansOf (runsOf (upward (s .lo) (suc (s .more)) ++ qs)))
+ahead s qs = elementsOf (paperLast (s .last)) (spansOf (runsOf (upward (s .lo) (suc (s .more)) ++ qs)))
 
 pub record FineState (s : State) : Type 0 where
   pub joined : Open (s .lo) (s .more)

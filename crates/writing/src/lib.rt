@@ -12,7 +12,7 @@ ghost use Rattle.codes.specs.Written.{joins, parted, newPrefix, upTo, elementOf
 ghost use Rattle.writing.specs.Ink.{Open};
 ghost use Rattle.writing.specs.Write.{Writes};
 ghost use Rattle.writing.specs.Pen.{Stored, elementMost, runFrom, Room, inkMost, Inked, FineState, Turned, closeMost, Closed, blockMost, Composed};
-ghost use Rattle.codes.specs.Cursor.{lastOf};
+ghost use Rattle.codes.specs.Cursor.{paperLast};
 use calendar::Dated;
 use calendar::Stamp;
 use codes::Last;
@@ -72,7 +72,7 @@ fn is_set(places: &[u32]) -> bool
 
 // Whether p is the prefix of the last element.
 fn is_last(last: Last, p: u32) -> bool
-    ensures { λ r. ⌜ newPrefix (lastOf last) p ≡ cond r [] (prefixBytes p) ⌝ }
+    ensures { λ r. ⌜ newPrefix (paperLast last) p ≡ cond r [] (prefixBytes p) ⌝ }
 {
     match last {
         Last::Prefix(q) => q == p,
@@ -132,7 +132,7 @@ fn put_prefix(out: &mut [u8], pos: usize, p: u32) -> usize
 // The prefix, unless it is that of the last element.
 fn put_new_prefix(out: &mut [u8], pos: usize, last: Last, p: u32) -> usize
     requires { ⌜ (pos + 3 ≤ length (now out)) × (p < prefixes) ⌝ }
-    ensures { λ r. ⌜ Stored (now (out .entry)) (now (out .exit)) pos r (newPrefix (lastOf last) p) ⌝ }
+    ensures { λ r. ⌜ Stored (now (out .entry)) (now (out .exit)) pos r (newPrefix (paperLast last) p) ⌝ }
     ensures most { λ r. ⌜ r ≤ pos + 3 ⌝ }
 {
     if is_last(last, p) {
@@ -157,7 +157,7 @@ fn put_end(out: &mut [u8], pos: usize, n: u32, more: u32) -> usize
 // The element of lo and so many more.
 fn put_element(out: &mut [u8], pos: usize, last: Last, lo: u32, more: u32) -> usize
     requires { ⌜ (pos + elementMost ≤ length (now out)) × (lo < placesEnd) × (lo % 1000 + more ≤ 999) ⌝ }
-    ensures { λ r. ⌜ Stored (now (out .entry)) (now (out .exit)) pos r (elementOf (lastOf last) (runFrom lo more)) ⌝ }
+    ensures { λ r. ⌜ Stored (now (out .entry)) (now (out .exit)) pos r (elementOf (paperLast last) (runFrom lo more)) ⌝ }
 {
     let n = lo % 1000;
     let number = put_new_prefix(&mut *out, pos, last, lo / 1000);
@@ -168,7 +168,7 @@ fn put_element(out: &mut [u8], pos: usize, last: Last, lo: u32, more: u32) -> us
 }
 
 fn new_prefix_length(last: Last, p: u32) -> usize
-    ensures { λ r. ⌜ r ≡ length (newPrefix (lastOf last) p) ⌝ }
+    ensures { λ r. ⌜ r ≡ length (newPrefix (paperLast last) p) ⌝ }
     ensures most { λ r. ⌜ r ≤ 3 ⌝ }
 {
     if is_last(last, p) {
@@ -179,7 +179,7 @@ fn new_prefix_length(last: Last, p: u32) -> usize
 
 // How many bytes the element of lo and so many more has, `nnn-` or `nnn>mmm-` behind its prefix.
 fn element_length(last: Last, lo: u32, more: u32) -> usize
-    ensures { λ r. ⌜ r ≡ length (elementOf (lastOf last) (runFrom lo more)) ⌝ }
+    ensures { λ r. ⌜ r ≡ length (elementOf (paperLast last) (runFrom lo more)) ⌝ }
     ensures most { λ r. ⌜ r ≤ elementMost ⌝ }
 {
     let n = new_prefix_length(last, lo / 1000);
@@ -234,7 +234,7 @@ fn make_room(out: &mut [u8], pen: Pen, n: usize) -> Pen
 // Sets the element of lo and so many more in the line, or in a new one.
 fn add(out: &mut [u8], pen: Pen, last: Last, lo: u32, more: u32) -> Pen
     requires { ⌜ (lo < placesEnd) × (lo % 1000 + more ≤ 999) × (pen .pos + inkMost ≤ length (now out)) × (pen .col ≤ writtenMost) ⌝ }
-    ensures { λ r. ⌜ Inked (now (out .entry)) (now (out .exit)) pen r (elementOf (lastOf last) (runFrom lo more) ∷ []) ⌝ }
+    ensures { λ r. ⌜ Inked (now (out .entry)) (now (out .exit)) pen r (elementOf (paperLast last) (runFrom lo more) ∷ []) ⌝ }
 {
     let n = element_length(last, lo, more);
     let at = make_room(&mut *out, pen, n);
@@ -268,7 +268,7 @@ fn joins(p: u32, q: u32) -> bool
 // Writes a run: one of two as two singles, any other as one element.
 fn flush(out: &mut [u8], pen: Pen, last: Last, lo: u32, more: u32) -> Pen
     requires { ⌜ Open lo more × (lo + more < placesEnd) × (pen .pos + 2 * inkMost ≤ length (now out)) × (pen .col ≤ writtenMost) ⌝ }
-    ensures { λ r. ⌜ Inked (now (out .entry)) (now (out .exit)) pen r (elementsOf (lastOf last) (parted lo more)) ⌝ }
+    ensures { λ r. ⌜ Inked (now (out .entry)) (now (out .exit)) pen r (elementsOf (paperLast last) (parted lo more)) ⌝ }
     ensures most { λ r. ⌜ r .pos ≤ pen .pos + 2 * inkMost ⌝ }
 {
     if more == 1 {

@@ -3,15 +3,15 @@ use mathlib.Core.Path.{_≡_}
 use mathlib.Core.Logic.{⊎-elim}
 use lib.ListN.{drop}
 use Rattle.codes.specs.Elements.{short, said}
-use Rattle.codes.specs.Cursor.{lastOf}
+use Rattle.codes.specs.Cursor.{paperLast}
 use borrow.Author.Needs.{needs}
 use Rattle.codes.proofs.read_element.Statement.{statement}
 use Rattle.codes.proofs.read_element.Tie as tie
 
 -- what the full and the short form have in common where they meet
 meets : (c : tie.Joined2)
-    → said (lastOf (c .before .before .before .before .before .args .last)) (c .before .before .before .before .before .args .e .now)
-    ≡ short (lastOf (c .if2 .under)) (drop (c .if2 .k) (c .before .before .before .before .before .args .e .now))
+    → said (paperLast (c .before .before .before .before .before .args .last)) (c .before .before .before .before .before .args .e .now)
+    ≡ short (paperLast (c .if2 .under)) (drop (c .if2 .k) (c .before .before .before .before .before .args .e .now))
 meets c = ⊎-elim (λ w. search (meets-full, needs)) (λ w. search (meets-short, needs)) (c .if2 .came)
 
 pub read-element-spec : {M : Type 1} → statement M

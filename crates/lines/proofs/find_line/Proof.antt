@@ -1,7 +1,7 @@
 use borrow.Author.Needs.{needs}
 use Prim.Native.Nat.{_-_}
 use lib.ListN.{length}
-use Rattle.lines.proofs.Scans.{Inside, past-last, inside-start, inside-next, inside-here, inside-last}
+use Rattle.lines.proofs.Scans.{end-fits, Inside, past-last, inside-start, inside-next, inside-here, inside-last}
 use Rattle.lines.proofs.find_line.Statement.{statement}
 use Rattle.lines.proofs.find_line.Tie as tie
 
@@ -24,8 +24,10 @@ find-line-spec =
     (λ c. search (inside-last, needs))
     (λ c κs. search needs)
     (λ c. search needs)
+    (λ c. search (end-fits, needs))
     (λ c κs. search needs)
     (λ c. search (inside-here, needs))
+    (λ c. search needs)
     (λ c. search needs)
     (λ c. search needs)
     (λ c. search (inside-next, needs)))
