@@ -25,7 +25,7 @@ use Rattle.lines.proofs.Strings.{begins-is}
 ending-is : (s : List ℕ) (i : ℕ)
     → endingOf (drop i s)
     ≡ cond (eqb (getD s i 0) 10) (some 1)
-      (cond (eqb (getD s i 0) 13 && eqb (getD s (i + 1) 0) 10) (some 2) (cond (eqb (getD s i 0) 13 && eqb (getD s (i + 1) 0) 13 && eqb (getD s (i + 1 + 1) 0) 10) (some 3) none))
+    (cond (eqb (getD s i 0) 13 && eqb (getD s (i + 1) 0) 10) (some 2) (cond (eqb (getD s i 0) 13 && eqb (getD s (i + 1) 0) 13 && eqb (getD s (i + 1 + 1) 0) 10) (some 3) none))
 unfolding endingOf
 ending-is s i =
     simp (begins-is (word "\n") s i (refl, tt), begins-is (word "\r\n") s i (refl, (refl, tt)), begins-is (word "\r\r\n") s i (refl, (refl, (refl, tt))), and-true, and-assoc)
