@@ -1,4 +1,5 @@
-// The calls that open, fill, read and drop a draft: document 01, "Steps". What they share stands in `copies`, the changes of a copy in `edits`, commit and undo in `history`.
+// The calls that open, fill, read and drop a draft: document 01, "Steps".
+// What they share stands in `copies`, the changes of a copy in `edits`, commit and undo in `history`.
 ghost use mathlib.Core.Path.{_≡_};
 ghost use mathlib.Core.Bool.{true};
 ghost use Prim.Native.Nat.{_≤_};

@@ -5,12 +5,14 @@ use Rattle.copies.proofs.find_copy.Tie as tie
 
 returns-2 : tie.Need-returns-2
 returns-2 c =
-    find-second _ _ _ (c .before .before .before .before .before .before .before .pre) _ (c .before .before .before .before .size .ensures .0)
+    let on4 = c .before .before .before .before in
+    find-second _ _ _ (on4 .before .before .before .pre) _ (on4 .size .ensures .0)
     (c .before .before .before .if1 .left) _ (c .before .size2 .ensures .0) (c .if2 .taken)
 
 returns-3 : tie.Need-returns-3
 returns-3 c =
-    find-none _ _ _ (c .before .before .before .before .before .before .before .pre) _ (c .before .before .before .before .size .ensures .0)
+    let on4 = c .before .before .before .before in
+    find-none _ _ _ (on4 .before .before .before .pre) _ (on4 .size .ensures .0)
     (c .before .before .before .if1 .left) _ (c .before .size2 .ensures .0) (c .if2 .left)
 
 pub find-copy-spec : {M : Type 1} → statement M

@@ -36,8 +36,10 @@ same-length-2 c = search needs
 returns-3 : tie.Need-returns-3
 unfolding Bytes
 returns-3 c =
-    let l = c .before .before .before .before .before .before .before .before .before .args .book .now in
-    let y : Bytes l = λ i. omega (arith, c .before .before .before .before .before .before .before .before .slice-known .given i) in
+    let on4 = c .before .before .before .before in
+    let on8 = on4 .before .before .before .before in
+    let l = on8 .before .args .book .now in
+    let y : Bytes l = λ i. omega (arith, on8 .slice-known .given i) in
     search (drop-shut, y, needs)
 
 close-draft-requires : tie.Need-close-draft-requires
@@ -52,10 +54,14 @@ same-length-3 c = search needs
 returns-4 : tie.Need-returns-4
 unfolding Bytes
 returns-4 c =
-    let l = c .before .before .before .before .before .before .before .before .before .before .before .before .before .before .before .before .args .book .now in
-    let y : Bytes l = λ i. omega (arith, c .before .before .before .before .before .before .before .before .before .before .before .before .before .before .before .slice-known .given i) in
-    drop-does l _ _ (c .before .before .before .before .before .before .before .before .before .is-open .ensures) y (c .before .before .before .before .before .before .before .before .before .before .before .before .before .before .if1 .left) _ (c .before .before .before .before .before .before .before .before .before .before .before .before .is-sound .ensures) (c .before .before .before .before .before .before .before .before .before .before .before .if2 .left) _
-    (c .before .before .before .before .before .before .before .before .if3 .left) (c .before .before .before .before .before .before .close-draft .ensures) _ (c .before .before .seal-index .ensures)
+    let on4 = c .before .before .before .before in
+    let on8 = on4 .before .before .before .before in
+    let on12 = on8 .before .before .before .before in
+    let on16 = on12 .before .before .before .before in
+    let l = on16 .args .book .now in
+    let y : Bytes l = λ i. omega (arith, on12 .before .before .before .slice-known .given i) in
+    drop-does l _ _ (on8 .before .is-open .ensures) y (on12 .before .before .if1 .left) _ (on12 .is-sound .ensures) (on8 .before .before .before .if2 .left) _
+    (on8 .if3 .left) (on4 .before .before .close-draft .ensures) _ (c .before .before .seal-index .ensures)
 
 pub drop-spec : {M : Type 1} → statement M
 drop-spec =

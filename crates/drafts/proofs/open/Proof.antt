@@ -41,8 +41,10 @@ same-length-2 c = search needs
 returns-3 : tie.Need-returns-3
 unfolding Bytes
 returns-3 c =
-    let l = c .before .before .before .before .before .before .before .before .before .before .args .book .now in
-    let y : Bytes l = λ i. omega (arith, c .before .before .before .before .before .before .before .before .before .slice-known .given i) in
+    let on4 = c .before .before .before .before in
+    let on8 = on4 .before .before .before .before in
+    let l = on8 .before .before .args .book .now in
+    let y : Bytes l = λ i. omega (arith, on8 .before .slice-known .given i) in
     search (open-none, y, needs)
 
 open-draft-requires : tie.Need-open-draft-requires
@@ -57,10 +59,15 @@ same-length-3 c = search needs
 returns-4 : tie.Need-returns-4
 unfolding Bytes
 returns-4 c =
-    let l = c .before .before .before .before .before .before .before .before .before .before .before .before .before .before .before .before .before .before .args .book .now in
-    let y : Bytes l = λ i. omega (arith, c .before .before .before .before .before .before .before .before .before .before .before .before .before .before .before .before .before .slice-known .given i) in
-    open-does l (c .before .before .before .before .before .before .before .before .before .before .before .before .before .before .before .before .if1 .left) _ (c .before .before .before .before .before .before .before .before .before .before .before .before .before .before .is-sound .ensures) (c .before .before .before .before .before .before .before .before .before .before .before .before .before .if2 .left) _ (c .before .before .before .before .before .before .before .before .before .before .before .lowest-closed .ensures) _
-    (c .before .before .before .before .before .before .before .before .before .d .given .1) y _ (c .before .before .before .before .before .before .open-draft .ensures) _ (c .before .before .seal-index .ensures)
+    let on4 = c .before .before .before .before in
+    let on8 = on4 .before .before .before .before in
+    let on12 = on8 .before .before .before .before in
+    let on16 = on12 .before .before .before .before in
+    let l = on16 .before .before .args .book .now in
+    let y : Bytes l = λ i. omega (arith, on16 .before .slice-known .given i) in
+    open-does l (on16 .if1 .left) _ (on12 .before .before .is-sound .ensures) (on12 .before .if2 .left) _
+    (on8 .before .before .before .lowest-closed .ensures) _
+    (on8 .before .d .given .1) y _ (on4 .before .before .open-draft .ensures) _ (c .before .before .seal-index .ensures)
 
 pub open-spec : {M : Type 1} → statement M
 open-spec =

@@ -15,8 +15,9 @@ enum-known-verdict c = search needs
 returns : tie.Need-returns
 unfolding Bytes
 returns c =
-    let l = c .before .before .before .before .before .args .book .now in
-    let y : Bytes l = λ i. omega (arith, c .before .before .before .before .shared-slice-known .given i) in
+    let on4 = c .before .before .before .before in
+    let l = on4 .before .args .book .now in
+    let y : Bytes l = λ i. omega (arith, on4 .shared-slice-known .given i) in
     search (refused-read, y, needs)
 
 enum-told : tie.Need-enum-told
@@ -37,22 +38,28 @@ refused-requires c κs = search needs
 returns-2 : tie.Need-returns-2
 unfolding Bytes
 returns-2 c =
-    let l = c .before .before .before .before .before .before .before .before .args .book .now in
-    let y : Bytes l = λ i. omega (arith, c .before .before .before .before .before .before .before .shared-slice-known .given i) in
+    let on4 = c .before .before .before .before in
+    let on8 = on4 .before .before .before .before in
+    let l = on8 .args .book .now in
+    let y : Bytes l = λ i. omega (arith, on4 .before .before .before .shared-slice-known .given i) in
     search (absent-read, y, needs)
 
 load-requires : tie.Need-load-requires
 unfolding Bytes
 load-requires c κs =
-    let l = c .before .before .before .before .before .before .before .before .args .book .now in
-    let y : Bytes l = λ i. omega (arith, c .before .before .before .before .before .before .before .shared-slice-known .given i) in
+    let on4 = c .before .before .before .before in
+    let on8 = on4 .before .before .before .before in
+    let l = on8 .args .book .now in
+    let y : Bytes l = λ i. omega (arith, on4 .before .before .before .shared-slice-known .given i) in
     (search (load-long, y, needs), search (load-block, y, needs), search (load-few, y, needs))
 
 returns-3 : tie.Need-returns-3
 unfolding Bytes
 returns-3 c =
-    let l = c .before .before .before .before .before .before .before .before .before .args .book .now in
-    let y : Bytes l = λ i. omega (arith, c .before .before .before .before .before .before .before .before .shared-slice-known .given i) in
+    let on4 = c .before .before .before .before in
+    let on8 = on4 .before .before .before .before in
+    let l = on8 .before .args .book .now in
+    let y : Bytes l = λ i. omega (arith, on8 .shared-slice-known .given i) in
     search (reads-count, working, y, needs)
 
 pub read-count-spec : {M : Type 1} → statement M

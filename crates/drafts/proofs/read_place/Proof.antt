@@ -15,8 +15,9 @@ enum-known-verdict c = search needs
 returns : tie.Need-returns
 unfolding Bytes
 returns c =
-    let l = c .before .before .before .before .before .args .book .now in
-    let y : Bytes l = λ i. omega (arith, c .before .before .before .before .shared-slice-known .given i) in
+    let on4 = c .before .before .before .before in
+    let l = on4 .before .args .book .now in
+    let y : Bytes l = λ i. omega (arith, on4 .shared-slice-known .given i) in
     search (refused-read, y, needs)
 
 enum-told : tie.Need-enum-told
@@ -37,15 +38,19 @@ refused-requires c κs = search needs
 returns-2 : tie.Need-returns-2
 unfolding Bytes
 returns-2 c =
-    let l = c .before .before .before .before .before .before .before .before .args .book .now in
-    let y : Bytes l = λ i. omega (arith, c .before .before .before .before .before .before .before .shared-slice-known .given i) in
+    let on4 = c .before .before .before .before in
+    let on8 = on4 .before .before .before .before in
+    let l = on8 .args .book .now in
+    let y : Bytes l = λ i. omega (arith, on4 .before .before .before .shared-slice-known .given i) in
     search (absent-read, y, needs)
 
 load-requires : tie.Need-load-requires
 unfolding Bytes
 load-requires c κs =
-    let l = c .before .before .before .before .before .before .before .before .args .book .now in
-    let y : Bytes l = λ i. omega (arith, c .before .before .before .before .before .before .before .shared-slice-known .given i) in
+    let on4 = c .before .before .before .before in
+    let on8 = on4 .before .before .before .before in
+    let l = on8 .args .book .now in
+    let y : Bytes l = λ i. omega (arith, on4 .before .before .before .shared-slice-known .given i) in
     (search (load-long, y, needs), search (load-block, y, needs), search (load-few, y, needs))
 
 refused-requires-2 : tie.Need-refused-requires-2
@@ -54,8 +59,10 @@ refused-requires-2 c κs = search needs
 returns-3 : tie.Need-returns-3
 unfolding Bytes
 returns-3 c =
-    let l = c .before .before .before .before .before .before .before .before .before .before .before .args .book .now in
-    let y : Bytes l = λ i. omega (arith, c .before .before .before .before .before .before .before .before .before .before .shared-slice-known .given i) in
+    let on4 = c .before .before .before .before in
+    let on8 = on4 .before .before .before .before in
+    let l = on8 .before .before .before .args .book .now in
+    let y : Bytes l = λ i. omega (arith, on8 .before .before .shared-slice-known .given i) in
     search (reads-past, working, y, needs)
 
 mul-wide : tie.Need-mul-wide
@@ -70,8 +77,11 @@ wide-requires c κs = search needs
 returns-4 : tie.Need-returns-4
 unfolding Bytes
 returns-4 c =
-    let l = c .before .before .before .before .before .before .before .before .before .before .before .before .args .book .now in
-    let y : Bytes l = λ i. omega (arith, c .before .before .before .before .before .before .before .before .before .before .before .shared-slice-known .given i) in
+    let on4 = c .before .before .before .before in
+    let on8 = on4 .before .before .before .before in
+    let on12 = on8 .before .before .before .before in
+    let l = on12 .args .book .now in
+    let y : Bytes l = λ i. omega (arith, on8 .before .before .before .shared-slice-known .given i) in
     search (reads-place, working, y, needs)
 
 pub read-place-spec : {M : Type 1} → statement M

@@ -18,8 +18,9 @@ same-length c = search needs
 returns : tie.Need-returns
 unfolding Bytes
 returns c =
-    let l = c .before .before .before .before .before .before .args .book .now in
-    let y : Bytes l = λ i. omega (arith, c .before .before .before .before .before .slice-known .given i) in
+    let on4 = c .before .before .before .before in
+    let l = on4 .before .before .args .book .now in
+    let y : Bytes l = λ i. omega (arith, on4 .before .slice-known .given i) in
     search (refused-does, y, needs)
 
 enum-told : tie.Need-enum-told
@@ -43,8 +44,10 @@ same-length-2 c = search needs
 returns-2 : tie.Need-returns-2
 unfolding Bytes
 returns-2 c =
-    let l = c .before .before .before .before .before .before .before .before .before .before .args .book .now in
-    let y : Bytes l = λ i. omega (arith, c .before .before .before .before .before .before .before .before .before .slice-known .given i) in
+    let on4 = c .before .before .before .before in
+    let on8 = on4 .before .before .before .before in
+    let l = on8 .before .before .args .book .now in
+    let y : Bytes l = λ i. omega (arith, on8 .before .slice-known .given i) in
     search (take-again, y, needs)
 
 count-taken-requires : tie.Need-count-taken-requires
@@ -60,18 +63,31 @@ same-length-3 c = search needs
 returns-3 : tie.Need-returns-3
 unfolding Bytes
 returns-3 c =
-    let l = c .before .before .before .before .before .before .before .before .before .before .before .before .before .args .book .now in
-    let y : Bytes l = λ i. omega (arith, c .before .before .before .before .before .before .before .before .before .before .before .before .slice-known .given i) in
+    let on4 = c .before .before .before .before in
+    let on8 = on4 .before .before .before .before in
+    let on12 = on8 .before .before .before .before in
+    let l = on12 .before .args .book .now in
+    let y : Bytes l = λ i. omega (arith, on12 .slice-known .given i) in
     search (take-full, y, needs)
 
 take-copy-requires : tie.Need-take-copy-requires
-take-copy-requires c κs =
-    (search (take-long, needs), search (take-from, needs), search (take-to, needs), search needs, search (take-segment-from, needs), search (take-segment-to, needs))
+take-copy-requires c κs = (
+  search (take-long, needs),
+  search (take-from, needs),
+  search (take-to, needs),
+  search needs,
+  search (take-segment-from, needs),
+  search (take-segment-to, needs),
+)
 
 seal-index-requires : tie.Need-seal-index-requires
 seal-index-requires c κs =
-    let l = c .before .before .before .before .before .before .before .before .before .before .before .before .before .before .before .before .before .args .book .now in
-    let long = take-long l _ _ _ (c .before .before .before .before .before .before .before .before .before .before .before .before .enum-told .given .1) (c .before .before .before .before .before .before .before .before .before .before .before .before .before .before .admit .ensures) in
+    let on4 = c .before .before .before .before in
+    let on8 = on4 .before .before .before .before in
+    let on12 = on8 .before .before .before .before in
+    let on16 = on12 .before .before .before .before in
+    let l = on16 .before .args .book .now in
+    let long = take-long l _ _ _ (on12 .enum-told .given .1) (on12 .before .before .admit .ensures) in
     search (long, needs)
 
 same-length-4 : tie.Need-same-length-4
@@ -80,11 +96,16 @@ same-length-4 c = search needs
 returns-4 : tie.Need-returns-4
 unfolding Bytes
 returns-4 c =
-    let l = c .before .before .before .before .before .before .before .before .before .before .before .before .before .before .before .before .before .before .before .before .args .book .now in
-    let y : Bytes l = λ i. omega (arith, c .before .before .before .before .before .before .before .before .before .before .before .before .before .before .before .before .before .before .before .slice-known .given i) in
-    take-does l y _ _ _ (c .before .before .before .before .before .before .before .before .before .before .before .before .before .before .before .enum-told .given .1) (c .before .before .before .before .before .before .before .before .before .before .before .before .before .before .before .before .before .admit .ensures) _ (c .before .before .before .before .before .before .before .before .before .before .before .before .before .find-copy .ensures)
-    (c .before .before .before .before .before .before .before .before .before .before .before .enum-told2 .given .1) _ (c .before .before .before .before .before .before .before .before .before .count-taken .ensures) (c .before .before .before .before .before .before .before .before .if1 .left) _
-    (c .before .before .before .before .before .before .take-copy .ensures) _ (c .before .before .seal-index .ensures)
+    let on4 = c .before .before .before .before in
+    let on8 = on4 .before .before .before .before in
+    let on12 = on8 .before .before .before .before in
+    let on16 = on12 .before .before .before .before in
+    let on20 = on16 .before .before .before .before in
+    let l = on20 .args .book .now in
+    let y : Bytes l = λ i. omega (arith, on16 .before .before .before .slice-known .given i) in
+    take-does l y _ _ _ (on12 .before .before .before .enum-told .given .1) (on16 .before .admit .ensures) _ (on12 .before .find-copy .ensures)
+    (on8 .before .before .before .enum-told2 .given .1) _ (on8 .before .count-taken .ensures) (on8 .if1 .left) _
+    (on4 .before .before .take-copy .ensures) _ (c .before .before .seal-index .ensures)
 
 pub take-spec : {M : Type 1} → statement M
 take-spec =
