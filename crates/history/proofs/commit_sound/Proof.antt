@@ -93,8 +93,9 @@ changes-in-requires c κs =
     let start = on2 .before .before in
     let l = start .args .book .now in
     let d = start .args .d in
-    (start .pre .0, omega arith, omega arith, first-low l d (start .pre .1) (omega arith) (omega arith), second-low l d (start .pre .1) (omega arith)
-    (omega arith))
+    let first = first-low l d (start .pre .1) (omega arith) (omega arith) in
+    let second = second-low l d (start .pre .1) (omega arith) (omega arith) in
+    (start .pre .0, omega arith, omega arith, first, second)
 
 commit-found-requires : tie.Need-commit-found-requires
 commit-found-requires c κs =
@@ -103,8 +104,8 @@ commit-found-requires c κs =
     let on2 = on1 .before .before .before .before in
     let start = on2 .before .before .before in
     let l = start .args .book .now in
-    (start .pre .0, omega arith, omega arith, steps-low l (start .pre .1), found-placed l (start .args .d) _ (start .pre .1) (omega arith) (omega arith)
-    (at-changes-in .changes-in .ensures))
+    let placed = found-placed l (start .args .d) _ (start .pre .1) (omega arith) (omega arith) (at-changes-in .changes-in .ensures) in
+    (start .pre .0, omega arith, omega arith, steps-low l (start .pre .1), placed)
 
 same-length : tie.Need-same-length
 same-length c = search needs

@@ -76,8 +76,8 @@ undo-step-requires c κs =
     let at-is-sound = at-if2 .before in
     let at-if1 = at-is-sound .before .before in
     let start = at-if1 .before .before in
-    (at-if1 .if1 .left, last-step (start .args .book .now) _ _ (sym (at-is-sound .is-sound .ensures) ∙ not-false _ (at-if2 .if2 .left))
-    (at-size .size .ensures .0) (at-if3 .if3 .left) refl)
+    let sound = sym (at-is-sound .is-sound .ensures) ∙ not-false _ (at-if2 .if2 .left) in
+    (at-if1 .if1 .left, last-step (start .args .book .now) _ _ sound (at-size .size .ensures .0) (at-if3 .if3 .left) refl)
 
 same-length-3 : tie.Need-same-length-3
 same-length-3 c = search needs
