@@ -25,7 +25,8 @@ use Rattle.heading.specs.declared.Storm.{Storm}
 use Rattle.heading.specs.declared.Storm.the-variants as named
 use Rattle.heading.specs.declared.Named.{Named}
 use Rattle.heading.specs.declared.Named.the-variants as naming
-use Rattle.bulletin.specs.Search.{fromFirst, upToFirst, afterFirst, closes, officeOrClose, linesOn, foundLines, Inside, nextIn}
+use Rattle.bulletin.specs.Search.{fromFirst, upToFirst, afterFirst, closes}
+use Rattle.bulletin.specs.Searching.{officeOrClose, linesOn, foundLines, Inside, nextIn}
 use Rattle.bulletin.specs.Mnd.{stormSaid, officeStorm}
 use Rattle.bulletin.specs.Segments.{fromLine3}
 use Rattle.bulletin.specs.Front.{paperStormed, paperStart}

@@ -1,8 +1,11 @@
 pub mod Seeking
+pub mod Opening
+pub mod Purges
 pub mod Keeping
 pub mod Stepping
 pub mod Fronts
 pub mod Tops
 pub mod Reports
+pub mod Saying
 pub mod Views
 pub mod OneToOne

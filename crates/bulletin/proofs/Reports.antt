@@ -15,16 +15,19 @@ use Rattle.lines.specs.Lines.{Line, blank}
 use Rattle.heading.specs.Paper.{paperHeading, paperStorm}
 use Rattle.heading.specs.Storm.{isOffice, StormName}
 use Rattle.heading.specs.declared.Storm.{Storm}
-use Rattle.bulletin.specs.Search.{fromFirst, upToFirst, afterFirst, closes, linesOn}
+use Rattle.bulletin.specs.Search.{fromFirst, upToFirst, afterFirst, closes}
+use Rattle.bulletin.specs.Searching.{linesOn}
 use Rattle.bulletin.specs.Mnd.{officeStorm, stormIn}
 use Rattle.bulletin.specs.Segments as segments
 use Rattle.bulletin.specs.Segments.{fromLine3, firstLines, segmentsFrom, most, segmentsOf}
 use Rattle.bulletin.specs.Bulletin as rule
 use Rattle.bulletin.specs.Bulletin.{readBulletin}
-use Rattle.bulletin.specs.Seen.{seenOf, seenFrom, listOf, Sized, ended, paperListed}
+use Rattle.bulletin.specs.Seen.{unread, segmentsFor, segmentsIn, Sized}
+use Rattle.bulletin.specs.Listing.{seenOf, seenFrom, listedBy, paperListed}
+use Rattle.bulletin.specs.KeptBy.{keptFrom}
+use Rattle.bulletin.specs.Report.{Report, reported, reportOf, paperBulletin, segmentsSaid, Reads}
+use Rattle.bulletin.specs.Below.{someSeen, listedOf, headOf, belowTop, belowOf, refusedFor, Answers}
 use Rattle.bulletin.specs.Front.{paperStormed, paperStart, checked, Above, topOf, paperTopped}
-use Rattle.bulletin.specs.Report.{reported, reportOf, paperBulletin, someSeen, listedOf, headOf, belowTop, belowOf}
-use Rattle.bulletin.specs.Kept.{keptFrom, keptUnder}
 use Rattle.bulletin.specs.declared.Segment.{Segment}
 use Rattle.bulletin.specs.declared.Ending.{Ending}
 use Rattle.bulletin.specs.declared.Ending.the-variants as ending
@@ -39,6 +42,24 @@ use Rattle.bulletin.specs.declared.Topped.the-variants as topped
 use Rattle.bulletin.specs.declared.Head.{Head}
 use Rattle.bulletin.specs.declared.Reading.the-variants as reading
 use Rattle.bulletin.specs.declared.Bulletin.{Bulletin}
+use Rattle.bulletin.proofs.Stepping.{unread-sized}
+
+-- ---- a refusal, with no segment
+pub refused-is : (held : List Segment) (r : Refusal) → held ≡ unread → record { reading = reading.Refused r; segments = record { held = held; count = 0 } } ≡ refusedFor r
+refused-is held r e = rw e
+
+refused-answers : (s : List ℕ) (said : Answer Report) (ks d : List ℕ) (b : Bulletin) (r : Refusal) → b ≡ refusedFor r → paperRefusal r ≡ said → Answers s said ks d b
+refused-answers s said ks d b r e q =
+    record {
+      says = ap paperBulletin e ∙ q;
+      segments = rw e;
+      sized = unread-sized (b .segments) (ap (λ (x : Bulletin). x .segments) e);
+      kept = λ h w. let z : reading.Refused r ≡ reading.Accepted h = sym (ap (λ (x : Bulletin). x .reading) e) ∙ w in apart cc;
+    }
+
+-- what is said may be said otherwise
+answers-as : (s : List ℕ) (x y : Answer Report) (ks d : List ℕ) (b : Bulletin) → x ≡ y → Answers s x ks d b → Answers s y ks d b
+answers-as s x y ks d b e v = record { says = v .says ∙ e; segments = v .segments; sized = v .sized; kept = v .kept }
 
 -- ---- the segments
 some-taken : (stop : ℕ) (h : Head) (n : ℕ) (held : List Segment) → length held ≡ 8 → (n ≡ 0 → ⊥) → someSeen stop (reportOf h) (take n held) ≡ ok (reportOf h (take n held))
@@ -46,25 +67,32 @@ some-taken stop h zero held l n = impossible (n refl)
 some-taken stop h (suc n) [] l k = impossible (omega arith)
 some-taken stop h (suc n) (g ∷ gs) l k = refl
 
-module _ (s : List ℕ) (from : ℕ) (h : Head) (l : Listed) (el : paperListed l ≡ seenFrom most s (h .issue) from) (z : Sized (l .segments)) where
+module _ (s : List ℕ) (from : ℕ) (h : Head) (l : Listed) (el : paperListed l ≡ seenFrom most s (h .issue) from) (ks d : List ℕ) where
   listed-is : listedOf s from h ≡ andThen (paperListed l) (someSeen (length s) (reportOf h))
   unfolding listedOf
   listed-is = rw (← el)
 
-  pub listed-refused : (r : Refusal) → l .ending ≡ ending.Refused r → paperBulletin (record { reading = reading.Refused r; segments = l .segments }) ≡ listedOf s from h
+  pub listed-refused : (r : Refusal) → l .ending ≡ ending.Refused r → (b : Bulletin) → b ≡ refusedFor r → Answers s (listedOf s from h) ks d b
   unfolding andThen
-  listed-refused r q = sym (listed-is ∙ ap (λ (e : Ending). andThen (ended e (l .segments)) (someSeen (length s) (reportOf h))) q)
+  listed-refused r q b e = refused-answers s (listedOf s from h) ks d b r e (sym (listed-is ∙ ap (λ (e : Ending). andThen (listedBy e (l .segments)) (someSeen (length s) (reportOf h))) q))
 
   module _ (q : l .ending ≡ ending.Whole) where
-    whole-is : listedOf s from h ≡ someSeen (length s) (reportOf h) (listOf (l .segments))
+    whole-is : listedOf s from h ≡ someSeen (length s) (reportOf h) (segmentsIn (l .segments))
     unfolding andThen
-    whole-is = listed-is ∙ ap (λ (e : Ending). andThen (ended e (l .segments)) (someSeen (length s) (reportOf h))) q
+    whole-is = listed-is ∙ ap (λ (e : Ending). andThen (listedBy e (l .segments)) (someSeen (length s) (reportOf h))) q
 
-    pub listed-none : l .segments .count ≡ 0 → (b : Bulletin) → paperBulletin b ≡ paperRefusal (refusalFor noSegment (length s)) → paperBulletin b ≡ listedOf s from h
-    listed-none z b e = e ∙ sym (whole-is ∙ rw z)
+    pub listed-none : l .segments .count ≡ 0 → (b : Bulletin) → b ≡ refusedFor (refusalFor noSegment (length s)) → Answers s (listedOf s from h) ks d b
+    listed-none z b e = refused-answers s (listedOf s from h) ks d b (refusalFor noSegment (length s)) e (sym (whole-is ∙ rw z))
 
-    pub listed-some : (l .segments .count ≡ 0 → ⊥) → paperBulletin (record { reading = reading.Accepted h; segments = l .segments }) ≡ listedOf s from h
-    listed-some n = sym (whole-is ∙ some-taken (length s) h (l .segments .count) (l .segments .held) (z .long) n)
+    pub listed-some : (l .segments .count ≡ 0 → ⊥) → l .segments ≡ segmentsFor (segmentsIn (l .segments)) → Sized (l .segments) → d ≡ keptFrom s (h .issue) 0 (segmentsIn (l .segments)) ks
+        → Answers s (listedOf s from h) ks d (record { reading = reading.Accepted h; segments = l .segments })
+    listed-some n f z k =
+        record {
+          says = sym (whole-is ∙ some-taken (length s) h (l .segments .count) (l .segments .held) (z .long) n);
+          segments = f;
+          sized = z;
+          kept = λ g w. let same : h ≡ g = cc in rw (← same) k;
+        }
 
 -- ---- the storm and the first place
 module _ (s : List ℕ) (t : Top) (mnd : ℕ) (em : linesOn s mnd ≡ afterFirst blank (linesOn s (t .third))) (x : Stormed)
@@ -74,9 +102,9 @@ module _ (s : List ℕ) (t : Top) (mnd : ℕ) (em : linesOn s mnd ≡ afterFirst
   unfolding belowOf
   below-is = rw (ex, em)
 
-  pub below-storm : (r : Refusal) → x ≡ stormed.Refused r → (b : Bulletin) → paperBulletin b ≡ paperRefusal r → paperBulletin b ≡ belowOf s t
+  pub below-storm : (r : Refusal) → x ≡ stormed.Refused r → (b : Bulletin) → b ≡ refusedFor r → (ks d : List ℕ) → Answers s (belowOf s t) ks d b
   unfolding andThen
-  below-storm r q b e = e ∙ sym (below-is ∙ rw q)
+  below-storm r q b e ks d = refused-answers s (belowOf s t) ks d b r e (sym (below-is ∙ rw q))
 
   module _ (storm : Storm) (q : x ≡ stormed.Right storm) (y : Start)
       (ey : paperStart s y ≡ fromLine3 (afterFirst closes (linesOn s mnd)) (length s) (linesOn s (t .third))) where
@@ -84,13 +112,13 @@ module _ (s : List ℕ) (t : Top) (mnd : ℕ) (em : linesOn s mnd ≡ afterFirst
     unfolding andThen
     placed = below-is ∙ ap (λ (k : Stormed). andThen (paperStormed k) (λ said. andThen (fromLine3 (afterFirst closes (linesOn s mnd)) (length s) (linesOn s (t .third))) (λ ls. andThen (seenOf (segmentsFrom most s (t .issue) ls)) (someSeen (length s) (belowTop t said))))) q ∙ rw (← ey)
 
-    pub below-place : (r : Refusal) → y ≡ start.Refused r → (b : Bulletin) → paperBulletin b ≡ paperRefusal r → paperBulletin b ≡ belowOf s t
+    pub below-place : (r : Refusal) → y ≡ start.Refused r → (b : Bulletin) → b ≡ refusedFor r → (ks d : List ℕ) → Answers s (belowOf s t) ks d b
     unfolding andThen
-    below-place r z b e = e ∙ sym (placed ∙ ap (λ (k : Start). andThen (paperStart s k) (λ ls. andThen (seenOf (segmentsFrom most s (t .issue) ls)) (someSeen (length s) (belowTop t (paperStorm storm))))) z)
+    below-place r z b e ks d = refused-answers s (belowOf s t) ks d b r e (sym (placed ∙ ap (λ (k : Start). andThen (paperStart s k) (λ ls. andThen (seenOf (segmentsFrom most s (t .issue) ls)) (someSeen (length s) (belowTop t (paperStorm storm))))) z))
 
-    pub below-listed : (a : ℕ) → y ≡ start.From a → (b : Bulletin) → paperBulletin b ≡ listedOf s a (headOf t storm) → paperBulletin b ≡ belowOf s t
+    pub below-listed : (a : ℕ) → y ≡ start.From a → (b : Bulletin) (ks d : List ℕ) → Answers s (listedOf s a (headOf t storm)) ks d b → Answers s (belowOf s t) ks d b
     unfolding andThen listedOf
-    below-listed a z b e = e ∙ sym (placed ∙ ap (λ (k : Start). andThen (paperStart s k) (λ ls. andThen (seenOf (segmentsFrom most s (t .issue) ls)) (someSeen (length s) (belowTop t (paperStorm storm))))) z)
+    below-listed a z b ks d e = answers-as s (listedOf s a (headOf t storm)) (belowOf s t) ks d b (sym (placed ∙ ap (λ (k : Start). andThen (paperStart s k) (λ ls. andThen (seenOf (segmentsFrom most s (t .issue) ls)) (someSeen (length s) (belowTop t (paperStorm storm))))) z)) e
 
 -- ---- the order, cut in three: the text, the top, and what is below
 then-then : {A B C : Type 0} (a : Answer A) (f : A → Answer B) (g : B → Answer C) → andThen (andThen a f) g ≡ andThen a (λ x. andThen (f x) g)
@@ -101,7 +129,7 @@ then-then (no number place) f g = refl
 abbrev rest : List ℕ → Above → Answer rule.Bulletin
 rest s a =
     andThen (officeStorm (fromFirst isOffice (upToFirst closes (afterFirst blank (a .below))))) λ storm.
-    andThen (andThen (fromLine3 (afterFirst closes (afterFirst blank (a .below))) (length s) (a .below)) (λ ls. andThen (segmentsFrom most s (a .issue) ls) (segments.some (length s)))) λ gs.
+    andThen (andThen (fromLine3 (afterFirst closes (afterFirst blank (a .below))) (length s) (a .below)) (λ ls. andThen (segmentsFrom most s (a .issue) ls) (segments.oneOrMore (length s)))) λ gs.
     ok (record { heading = a .heading; identifier = a .identifier; issue = a .issue; storm = storm; segments = gs })
 
 then-ok : {A B : Type 0} (x : A) (f : A → Answer B) → andThen (ok x) f ≡ f x
@@ -117,20 +145,20 @@ module _ (stop : ℕ) (t : Top) where
   abbrev told : Option StormName → List segments.Segment → Answer rule.Bulletin
   told storm gs = ok (record { heading = paperHeading (t .heading); identifier = t .identifier; issue = t .issue; storm = storm; segments = gs })
 
-  listed-seen : (storm : Option StormName) (z : Answer (List segments.Segment)) → reported (andThen (andThen z (segments.some stop)) (told storm)) ≡ andThen (seenOf z) (someSeen stop (belowTop t storm))
+  listed-seen : (storm : Option StormName) (z : Answer (List segments.Segment)) → reported (andThen (andThen z (segments.oneOrMore stop)) (told storm)) ≡ andThen (seenOf z) (someSeen stop (belowTop t storm))
   unfolding andThen
   listed-seen storm (ok []) = refl
   listed-seen storm (ok (x ∷ xs)) = refl
   listed-seen storm (no number place) = refl
 
   placed-seen : (f : List Line → Answer (List segments.Segment)) (storm : Option StormName) (y : Answer (List Line))
-      → reported (andThen (andThen y (λ ls. andThen (f ls) (segments.some stop))) (told storm)) ≡ andThen y (λ ls. andThen (seenOf (f ls)) (someSeen stop (belowTop t storm)))
+      → reported (andThen (andThen y (λ ls. andThen (f ls) (segments.oneOrMore stop))) (told storm)) ≡ andThen y (λ ls. andThen (seenOf (f ls)) (someSeen stop (belowTop t storm)))
   unfolding andThen
   placed-seen f storm (ok ls) = listed-seen storm (f ls)
   placed-seen f storm (no number place) = refl
 
   storm-seen : (f : List Line → Answer (List segments.Segment)) (y : Answer (List Line)) (x : Answer (Option StormName))
-      → reported (andThen x (λ storm. andThen (andThen y (λ ls. andThen (f ls) (segments.some stop))) (told storm)))
+      → reported (andThen x (λ storm. andThen (andThen y (λ ls. andThen (f ls) (segments.oneOrMore stop))) (told storm)))
       ≡ andThen x (λ storm. andThen y (λ ls. andThen (seenOf (f ls)) (someSeen stop (belowTop t storm))))
   unfolding andThen
   storm-seen f y (ok storm) = placed-seen f storm y
@@ -144,47 +172,34 @@ unfolding belowOf
 below-seen s t = storm-seen (length s) t (segmentsFrom most s (t .issue)) _ _
 
 -- ---- the ways out
-module _ (s : List ℕ) (year month : ℕ) (v : Verdict) (ev : paperVerdict v ≡ checked s year month) where
-  pub read-checked : (r : Refusal) → v ≡ verdict.Refused r → (b : Bulletin) → paperBulletin b ≡ paperRefusal r → paperBulletin b ≡ reported (readBulletin s year month)
+module _ (s : List ℕ) (year month : ℕ) (ks d : List ℕ) (v : Verdict) (ev : paperVerdict v ≡ checked s year month) where
+  pub read-checked : (r : Refusal) → v ≡ verdict.Refused r → (b : Bulletin) → b ≡ refusedFor r → Answers s (reported (readBulletin s year month)) ks d b
   unfolding andThen
   read-checked r q b e =
       let w : readBulletin s year month ≡ paperRefusal r = order s year month ∙ rw (← ev, q) in
-      e ∙ sym (ap reported w)
+      refused-answers s (reported (readBulletin s year month)) ks d b r e (sym (ap reported w))
 
   module _ (q : v ≡ verdict.Accepted) (x : Topped) (ex : paperTopped s x ≡ topOf s year month) where
     topped-is : readBulletin s year month ≡ andThen (paperTopped s x) (rest s)
     unfolding andThen
     topped-is = order s year month ∙ rw (← ev, q, ex)
 
-    pub read-topped : (r : Refusal) → x ≡ topped.Refused r → (b : Bulletin) → paperBulletin b ≡ paperRefusal r → paperBulletin b ≡ reported (readBulletin s year month)
+    pub read-topped : (r : Refusal) → x ≡ topped.Refused r → (b : Bulletin) → b ≡ refusedFor r → Answers s (reported (readBulletin s year month)) ks d b
     unfolding andThen
-    read-topped r z b e = e ∙ sym (ap reported (topped-is ∙ ap (λ (k : Topped). andThen (paperTopped s k) (rest s)) z))
+    read-topped r z b e =
+        let w : readBulletin s year month ≡ paperRefusal r = topped-is ∙ ap (λ (k : Topped). andThen (paperTopped s k) (rest s)) z in
+        refused-answers s (reported (readBulletin s year month)) ks d b r e (sym (ap reported w))
 
-    pub read-whole : (t : Top) → x ≡ topped.Right t → (b : Bulletin) → paperBulletin b ≡ belowOf s t → paperBulletin b ≡ reported (readBulletin s year month)
+    pub read-whole : (t : Top) → x ≡ topped.Right t → (b : Bulletin) → Answers s (belowOf s t) ks d b → Answers s (reported (readBulletin s year month)) ks d b
     unfolding andThen
-    read-whole t z b e = e ∙ sym (below-seen s t) ∙ sym (ap reported (topped-is ∙ ap (λ (k : Topped). andThen (paperTopped s k) (rest s)) z))
+    read-whole t z b e =
+        answers-as s (belowOf s t) (reported (readBulletin s year month)) ks d b
+        (sym (below-seen s t) ∙ sym (ap reported (topped-is ∙ ap (λ (k : Topped). andThen (paperTopped s k) (rest s)) z))) e
 
--- ---- the issue that the places are kept under is the bulletin's
-rest-issue : (a : Above) (b : rule.Bulletin) (x : Answer (Option StormName)) (y : Answer (List segments.Segment))
-    → andThen x (λ storm. andThen y (λ gs. ok (record { heading = a .heading; identifier = a .identifier; issue = a .issue; storm = storm; segments = gs }))) ≡ ok b
-    → a .issue ≡ b .issue
-unfolding andThen
-rest-issue a b (ok storm) (ok gs) e =
-    let p : record { heading = a .heading; identifier = a .identifier; issue = a .issue; storm = storm; segments = gs } ≡ b = cc in
-    λ i. p i .issue
-rest-issue a b (ok storm) (no number place) e = apart cc
-rest-issue a b (no number place) y e = apart cc
+-- ---- the promise
+pub answers-reads : (s : List ℕ) (year month : ℕ) (ks d : List ℕ) (b : Bulletin) → Answers s (reported (readBulletin s year month)) ks d b → Reads s year month b
+answers-reads s year month ks d b v =
+    record { says = v .says; segments = v .segments ∙ ap (λ (x : Answer Report). segmentsFor (segmentsSaid x)) (v .says) }
 
-rest-of : (s : List ℕ) (a : Above) (b : rule.Bulletin) → rest s a ≡ ok b → a .issue ≡ b .issue
-rest-of s a b e = rest-issue a b _ _ e
-
-under-issue : (s : List ℕ) (c : Answer Unit) (x : Answer Above) (b : rule.Bulletin) → andThen c (λ _. andThen x (rest s)) ≡ ok b → (gs : List Segment) (ks : List ℕ)
-    → keptUnder s x gs ks ≡ keptFrom s (b .issue) 0 gs ks
-unfolding andThen
-under-issue s (ok u) (ok a) b e gs ks = ap (λ (issue : ℕ). keptFrom s issue 0 gs ks) (rest-of s a b e)
-under-issue s (ok u) (no number place) b e gs ks = apart cc
-under-issue s (no number place) x b e gs ks = apart cc
-
-pub kept-accepted : (s : List ℕ) (year month : ℕ) (b : rule.Bulletin) → readBulletin s year month ≡ ok b → (gs : List Segment) (ks : List ℕ)
-    → keptUnder s (topOf s year month) gs ks ≡ keptFrom s (b .issue) 0 gs ks
-kept-accepted s year month b e gs ks = under-issue s (checked s year month) (topOf s year month) b (sym (order s year month) ∙ e) gs ks
+pub answers-sized : (s : List ℕ) (x : Answer Report) (ks d : List ℕ) (b : Bulletin) → Answers s x ks d b → Sized (b .segments)
+answers-sized s x ks d b v = v .sized

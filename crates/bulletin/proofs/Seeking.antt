@@ -11,7 +11,8 @@ use Rattle.lines.specs.declared.Span.{Span}
 use Rattle.lines.specs.declared.Lined.{Lined}
 use Rattle.lines.specs.declared.Lined.the-variants as lined
 use Rattle.lines.proofs.Ends.{endOf, nextOf, next-within, next-more, next-last, part-body, lineAt, lines-step, lines-last, span-here, span-none, found-none, found-here, found-end, found-next}
-use Rattle.bulletin.specs.Search.{fromFirst, closes, testOf, linesOn, foundLines, Inside, nextIn}
+use Rattle.bulletin.specs.Search.{fromFirst, closes}
+use Rattle.bulletin.specs.Searching.{testOf, linesOn, foundLines, Inside, nextIn}
 use Rattle.heading.specs.Storm.{isOffice}
 use Rattle.bulletin.specs.declared.Sought.{Sought}
 use Rattle.bulletin.specs.declared.Sought.the-variants.{OfficeOrClose}

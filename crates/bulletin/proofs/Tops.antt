@@ -29,7 +29,8 @@ use Rattle.heading.specs.Paper.{paperHeaded, paperHeading}
 use Rattle.heading.specs.declared.Heading.{Heading}
 use Rattle.heading.specs.declared.Headed.{Headed}
 use Rattle.heading.specs.declared.Headed.the-variants as headed
-use Rattle.bulletin.specs.Search.{later, linesOn}
+use Rattle.bulletin.specs.Search.{later}
+use Rattle.bulletin.specs.Searching.{linesOn}
 use Rattle.bulletin.specs.Bulletin as rule
 use Rattle.bulletin.specs.Bulletin.{isLength, line1, line2}
 use Rattle.bulletin.specs.Front.{checked, topOf, paperTopped}

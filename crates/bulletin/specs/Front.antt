@@ -1,4 +1,4 @@
--- What the code's answers mean, up to the first segment.
+-- Serves the code: what its answers mean, up to the first segment, and the order of reading up to there.
 use Prim.Native.Nat.{ℕ}
 use lib.ListN.{length}
 use Rattle.refusal.specs.Numbers.{wrongLength, wrongTime}
@@ -11,7 +11,8 @@ use mathlib.Core.List.{List}
 use mathlib.Core.Option.{Option}
 use Rattle.refusal.specs.Answer.{Answer, ok, must, andThen, paperRefusal}
 use Rattle.lines.specs.Lines.{Line, linesOf}
-use Rattle.bulletin.specs.Search.{later, linesOn}
+use Rattle.bulletin.specs.Search.{later}
+use Rattle.bulletin.specs.Searching.{linesOn}
 use Rattle.bulletin.specs.Bulletin.{isLength, line1, line2, issued}
 use Rattle.bulletin.specs.declared.Topped.{Topped}
 use Rattle.bulletin.specs.declared.Topped.the-variants as topped

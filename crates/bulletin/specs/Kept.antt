@@ -1,6 +1,7 @@
--- The places that the reader keeps for its caller: those of segment i, counted from 0, in lent numbers from 120 * i on. They are those of the segments that the answer
--- holds: of a refused bulletin, the ones before the refusal.
+-- The places that the reader keeps for its caller: those of segment i, counted from 0, in the lent numbers from 120 * i on, if there is room for 120 there. Every other
+-- number is as it was; on a refusal all are.
 use Prim.Native.Nat.{ℕ, suc, _+_, _*_}
+use mathlib.Core.Path.{_≡_}
 use mathlib.Core.Bool.{cond}
 use mathlib.Core.List.{List, [], _∷_}
 use lib.ListN.{length}
@@ -8,32 +9,28 @@ use lib.Seq.{sets}
 use lib.Dec.{leb}
 use Rattle.refusal.specs.Answer.{Answer, ok, no}
 use Rattle.codes.specs.Places.{capacity}
-use Rattle.codes.specs.Block.{Content, contentAt}
-use Rattle.bulletin.specs.Front.{Above}
-use Rattle.bulletin.specs.declared.Segment.{Segment}
-use Rattle.bulletin.specs.declared.Next.{Next}
-use Rattle.bulletin.specs.declared.Next.the-variants as next
+use Rattle.bulletin.specs.Segments.{Segment}
+use Rattle.bulletin.specs.Bulletin as rule
+use Rattle.bulletin.specs.Report.{Reads}
+use Rattle.bulletin.specs.declared.Bulletin.{Bulletin}
 
 -- the numbers with these places from `at` on, if there is room for 120 there
 unfoldable pub keepAt : ℕ → List ℕ → List ℕ → List ℕ
 keepAt at ps ks = cond (leb (at + capacity) (length ks)) (sets ks at ps) ks
 
-abbrev pub placesOf : Answer Content → List ℕ
-placesOf (ok c) = c .places
-placesOf (no number place) = []
+-- the numbers with the places of each of these, the first of which is segment i
+unfoldable pub keepEach : {A : Type 0} → (ℕ → A → List ℕ) → ℕ → List A → List ℕ → List ℕ
+keepEach f i [] ks = ks
+keepEach f i (g ∷ gs) ks = keepEach f (suc i) gs (keepAt (capacity * i) (f i g) ks)
 
--- one step of the reader keeps the places of the segment that it reads
-abbrev pub keptBy : List ℕ → ℕ → ℕ → Next → List ℕ → List ℕ
-keptBy text issue at next.Nothing ks = ks
-keptBy text issue at (next.Refused r) ks = ks
-keptBy text issue at (next.One g) ks = keepAt at (placesOf (contentAt text issue (g .start))) ks
+abbrev pub placesOf : ℕ → Segment → List ℕ
+placesOf i g = g .content .places
 
--- all of them, the first of which is segment i
-unfoldable pub keptFrom : List ℕ → ℕ → ℕ → List Segment → List ℕ → List ℕ
-keptFrom text issue i [] ks = ks
-keptFrom text issue i (g ∷ gs) ks = keptFrom text issue (suc i) gs (keepAt (capacity * i) (placesOf (contentAt text issue (g .start))) ks)
+abbrev pub keptOf : Answer rule.Bulletin → List ℕ → List ℕ
+keptOf (ok b) ks = keepEach placesOf 0 (b .segments) ks
+keptOf (no number place) ks = ks
 
--- under the issue that the lines above give; without one no segment is read
-abbrev pub keptUnder : List ℕ → Answer Above → List Segment → List ℕ → List ℕ
-keptUnder text (ok a) gs ks = keptFrom text (a .issue) 0 gs ks
-keptUnder text (no number place) gs ks = ks
+-- the promise: the answer, and the lent numbers afterwards
+pub record Keeps (before after text : List ℕ) (year month : ℕ) (b : Bulletin) : Type 0 where
+  pub answer : Reads text year month b
+  pub left : after ≡ keptOf (rule.readBulletin text year month) before

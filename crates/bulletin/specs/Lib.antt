@@ -1,9 +1,13 @@
 pub mod Search
 pub mod Mnd
 pub mod Segments
-pub mod Seen
 pub mod Bulletin
-pub mod Front
+pub mod Seen
 pub mod Report
 pub mod View
 pub mod Kept
+pub mod Searching
+pub mod Listing
+pub mod KeptBy
+pub mod Front
+pub mod Below

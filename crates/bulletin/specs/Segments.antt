@@ -3,12 +3,13 @@ use Prim.Native.Nat.{ℕ, zero, suc}
 use mathlib.Core.List.{List, [], _∷_}
 use mathlib.Core.Bool.{cond}
 use lib.ListN.{length}
+use lib.Dec.{ltb}
 use Rattle.refusal.specs.Numbers.{wrongBlock, noSegment, noEnd, ninthSegment}
 use Rattle.refusal.specs.Answer.{Answer, ok, refused, andThen}
 use Rattle.lines.specs.Lines.{Line, blank, isEnd, opens}
-use Rattle.codes.specs.Block.{Content, contentAt, readBlock, lastOf}
-use Rattle.lines.specs.Spans.{spanAt}
-use Rattle.bulletin.specs.Search.{fromFirst, later, nextIn}
+use Rattle.codes.specs.Block.{Content}
+use Rattle.reading.specs.Placed.{placedAt}
+use Rattle.bulletin.specs.Search.{fromFirst, later}
 use Rattle.bulletin.specs.Mnd.{pastMnd}
 
 -- its first byte's place, where its block starts too; the place after its block's last line, and after its `$$` line; and its content
@@ -18,19 +19,22 @@ pub record Segment : Type 0 where
   pub past : ℕ
   pub content : Content
 
--- the place after the line with the purge of the block that starts at a place: the purge "ends the block and its line"
-abbrev pub pastBlock : List ℕ → ℕ → ℕ
-pastBlock text start = nextIn (lastOf (readBlock text start)) (spanAt text (lastOf (readBlock text start)))
+-- "Purge: `DDHHMM` .. It ends the block and its line.": the place after the line that has the purge, of the lines from the segment's first on. Its element stands at `at`.
+unfoldable pub pastPurge : ℕ → Line → List Line → ℕ
+pastPurge at l [] = l .next
+pastPurge at l (m ∷ ls) = cond (ltb at (l .next)) (l .next) (pastPurge at m ls)
 
 -- "A segment runs up to and with the line that is exactly `$$`." 8 at its start where there is none; the next segments stand in the lines after it.
-abbrev pub ended : List ℕ → Line → Content → (List Line → Answer (List Segment)) → List Line → Answer (List Segment)
-ended text l c next [] = refused noEnd (l .start)
-ended text l c next (e ∷ ls) = andThen (next ls) (λ ss. ok (record { start = l .start; block = pastBlock text (l .start); past = e .next; content = c } ∷ ss))
+abbrev pub runsTo : (start block : ℕ) → Content → (List Line → Answer (List Segment)) → List Line → Answer (List Segment)
+runsTo start block c next [] = refused noEnd start
+runsTo start block c next (e ∷ ls) = andThen (next ls) (λ ss. ok (record { start = start; block = block; past = e .next; content = c } ∷ ss))
 
 -- in each segment 6, 5 and 11, then 8
 abbrev pub opened : List ℕ → ℕ → (List Line → Answer (List Segment)) → List Line → Answer (List Segment)
 opened text issue next [] = ok []
-opened text issue next (l ∷ ls) = andThen (contentAt text issue (l .start)) (λ c. ended text l c next (fromFirst isEnd (l ∷ ls)))
+opened text issue next (l ∷ ls) =
+    andThen (placedAt text issue (l .start)) λ p.
+    runsTo (l .start) (pastPurge (p .at) l ls) (p .content) next (fromFirst isEnd (l ∷ ls))
 
 -- | 9 | a ninth segment | its start |
 abbrev pub ninth : List Line → Answer (List Segment)
@@ -55,9 +59,9 @@ firstLines stop lines = fromLine3 (pastMnd lines) stop (later (later lines))
 abbrev pub most : ℕ
 most = 8
 
-abbrev pub some : ℕ → List Segment → Answer (List Segment)
-some stop [] = refused noSegment stop
-some stop (s ∷ ss) = ok (s ∷ ss)
+abbrev pub oneOrMore : ℕ → List Segment → Answer (List Segment)
+oneOrMore stop [] = refused noSegment stop
+oneOrMore stop (s ∷ ss) = ok (s ∷ ss)
 
 unfoldable pub segmentsOf : List ℕ → ℕ → List Line → Answer (List Segment)
-segmentsOf text issue lines = andThen (firstLines (length text) lines) (λ ls. andThen (segmentsFrom most text issue ls) (some (length text)))
+segmentsOf text issue lines = andThen (firstLines (length text) lines) (λ ls. andThen (segmentsFrom most text issue ls) (oneOrMore (length text)))

@@ -1,7 +1,6 @@
 // A whole bulletin: document 01, "Text and lines" and "Segments and place code blocks".
 ghost use mathlib.Core.Path.{_≡_};
-ghost use mathlib.Core.List.{[]};
-ghost use Prim.Native.Nat.{_≤_};
+ghost use Prim.Native.Nat.{_≤_, _<_};
 use calendar::Date;
 use calendar::Moment;
 use heading::Headed;
@@ -16,17 +15,22 @@ ghost use lib.ListN.{length};
 ghost use Rattle.codes.specs.Places.{capacity};
 ghost use Rattle.lines.specs.Spans.{spanAt};
 ghost use Rattle.bulletin.specs.Segments.{most, fromLine3};
-ghost use Rattle.bulletin.specs.Seen.{Stepped, seenFrom, listOf, Sized, paperListed};
-ghost use Rattle.bulletin.specs.Search.{fromFirst, upToFirst, afterFirst, testOf, closes, linesOn, foundLines, Inside, nextIn};
-ghost use Rattle.heading.specs.Storm.{isOffice};
+ghost use Rattle.bulletin.specs.Search.{fromFirst, upToFirst, afterFirst, closes};
 ghost use Rattle.bulletin.specs.Mnd.{officeStorm};
-ghost use Rattle.bulletin.specs.Front.{paperStormed, paperStart, checked, paperTopped, topOf};
-ghost use Rattle.refusal.specs.Answer.{paperVerdict, paperRefusal, refusalFor};
-ghost use Rattle.refusal.specs.Numbers.{noSuchSegment};
 ghost use Rattle.bulletin.specs.Bulletin.{readBulletin};
+ghost use Rattle.bulletin.specs.Report.{reported, Reads};
 ghost use Rattle.bulletin.specs.View.{viewOf, paperViewed, accepted, partOf};
-ghost use Rattle.bulletin.specs.Report.{paperBulletin, reported, listedOf, belowOf};
-ghost use Rattle.bulletin.specs.Kept.{keepAt, keptBy, keptFrom, keptUnder};
+ghost use Rattle.bulletin.specs.Kept.{keepAt, Keeps};
+ghost use Rattle.bulletin.specs.Searching.{testOf, mayOpen, linesOn, foundLines, Inside, nextIn};
+ghost use Rattle.bulletin.specs.Seen.{unread, segmentsFor, segmentsIn, Sized};
+ghost use Rattle.bulletin.specs.Listing.{Begun, Stepped, seenFrom, paperListed};
+ghost use Rattle.bulletin.specs.KeptBy.{keptBy, keptFrom, handedOn};
+ghost use Rattle.bulletin.specs.Front.{paperStormed, paperStart, checked, paperTopped, topOf};
+ghost use Rattle.bulletin.specs.Below.{listedOf, belowOf, refusedFor, Answers};
+ghost use Rattle.lines.specs.Lines.{opens};
+ghost use Rattle.heading.specs.Storm.{isOffice};
+ghost use Rattle.refusal.specs.Answer.{paperVerdict, refusalFor};
+ghost use Rattle.refusal.specs.Numbers.{noSuchSegment};
 
 // A line's start, or none.
 enum Found {
@@ -36,7 +40,6 @@ enum Found {
 
 // What a search over lines looks for.
 enum Sought {
-    Opening,
     End,
     Blank,
     Close,
@@ -47,7 +50,6 @@ fn is_sought(line: &[u8], sought: Sought) -> bool
     ensures { λ r. ⌜ r ≡ testOf sought (now (line .entry)) ⌝ }
 {
     match sought {
-        Sought::Opening => lines::opens_block(line),
         Sought::End => lines::is_end(line),
         Sought::Blank => lines::is_blank(line),
         Sought::Close => closes(line),
@@ -75,6 +77,50 @@ fn first(text: &[u8], from: usize, sought: Sought) -> Found
         let line = lines::part(text, at, l.end);
         if is_sought(line, sought) {
             break 'search Found::At(at);
+        }
+        at = l.next;
+    };
+    found
+}
+
+// Whether the byte at k, of which there are seven, may stand in a line that opens a block: two capitals, C or Z, three digits or `ALL`, `-` or `>`.
+fn may_open(line: &[u8], k: usize) -> bool
+    ensures { λ r. ⌜ r ≡ mayOpen (now (line .entry)) k ⌝ }
+{
+    let b = lines::byte(line, k);
+    if k < 2 {
+        return lines::capital(b);
+    }
+    if k == 2 {
+        return (b == 67) | (b == 90);
+    }
+    let x = lines::byte(line, 3);
+    if k == 3 {
+        return lines::digit(b) | (b == 65);
+    }
+    if k < 6 {
+        return (lines::digit(x) & lines::digit(b)) | ((x == 65) & (b == 76));
+    }
+    (b == 45) | (b == 62)
+}
+
+// The first line from `from` on, where a line starts, that opens a block. Most lines are left at their first or second byte.
+fn first_opening(text: &[u8], from: usize) -> Found
+    ensures is { λ r. ⌜ foundLines (now (text .entry)) r ≡ fromFirst opens (linesOn (now (text .entry)) from) ⌝ }
+    ensures inside { λ r. ⌜ Inside (now (text .entry)) from r ⌝ }
+{
+    let mut at = from;
+    let found = 'search: loop {
+        let Lined::Line(l) = lines::find_line(text, at) else {
+            break 'search Found::Nothing;
+        };
+        let line = lines::part(text, at, l.end);
+        let mut k: usize = 0;
+        while may_open(line, k) {
+            k += 1;
+            if k == 7 {
+                break 'search Found::At(at);
+            }
         }
         at = l.next;
     };
@@ -144,36 +190,24 @@ fn keep(kept: &mut [u32], at: usize, places: &[u32])
     }
 }
 
-// The next segment from `from` on, of which at most `left` may still come; its places are kept from `at` on.
-fn next_segment(
-    text: &[u8],
-    from: usize,
-    issue: usize,
-    left: usize,
-    kept: &mut [u32],
-    at: usize,
-) -> Next
+// The segment whose first line starts at `start`; its places are kept from `at` on.
+fn read_segment(text: &[u8], start: usize, issue: usize, kept: &mut [u32], at: usize) -> Next
+    requires { ⌜ start < length (now text) ⌝ }
     requires { ⌜ at ≤ 960 ⌝ }
-    ensures is { λ r. ⌜ Stepped (now (text .entry)) issue left from r ⌝ }
+    ensures is { λ r. ⌜ Begun (now (text .entry)) issue start r ⌝ }
     ensures kept { λ r. ⌜ now (kept .exit) ≡ keptBy (now (text .entry)) issue at r (now (kept .entry)) ⌝ }
 {
-    let Found::At(start) = first(text, from, Sought::Opening) else {
-        return Next::Nothing;
-    };
-    if left == 0 {
-        return refused(refusal::NINTH_SEGMENT, start);
-    }
     let content = reading::read_content(text, start, issue);
     let places = content.places;
     let purge = content.purge;
     let count = places.count;
     match purge {
         Purge::Refused(r) => Next::Refused(r),
-        Purge::At(minute) => {
+        Purge::At(minute, place) => {
             let Found::At(end) = first(text, start, Sought::End) else {
                 return refused(refusal::NO_END, start);
             };
-            let block = after_line(text, content.last);
+            let block = after_line(text, place);
             let past = after_line(text, end);
             let held = places.held;
             keep(kept, at, &held[0..count]);
@@ -188,19 +222,49 @@ fn next_segment(
     }
 }
 
-// The segments from `from` on: at most eight.
-fn read_segments(text: &[u8], from: usize, issue: usize, kept: &mut [u32]) -> Listed
-    ensures is { λ r. ⌜ paperListed r ≡ seenFrom most (now (text .entry)) issue from ⌝ }
-    ensures sized { λ r. ⌜ Sized (r .segments) ⌝ }
-    ensures kept { λ r. ⌜ now (kept .exit) ≡ keptFrom (now (text .entry)) issue 0 (listOf (r .segments)) (now (kept .entry)) ⌝ }
+// The next segment from `from` on, of which at most `left` may still come; its places are kept from `at` on.
+fn next_segment(
+    text: &[u8],
+    from: usize,
+    issue: usize,
+    left: usize,
+    kept: &mut [u32],
+    at: usize,
+) -> Next
+    requires { ⌜ at ≤ 960 ⌝ }
+    ensures is { λ r. ⌜ Stepped (now (text .entry)) issue left from r ⌝ }
+    ensures kept { λ r. ⌜ now (kept .exit) ≡ keptBy (now (text .entry)) issue at r (now (kept .entry)) ⌝ }
 {
-    let mut held = [Segment {
+    let Found::At(start) = first_opening(text, from) else {
+        return Next::Nothing;
+    };
+    if left == 0 {
+        return refused(refusal::NINTH_SEGMENT, start);
+    }
+    read_segment(text, start, issue, kept, at)
+}
+
+// Eight segments that are all zeros.
+fn unread() -> [Segment; 8]
+    ensures { λ r. ⌜ r ≡ unread ⌝ }
+{
+    [Segment {
         start: 0,
         block: 0,
         past: 0,
         purge: 0,
         count: 0,
-    }; 8];
+    }; 8]
+}
+
+// The segments from `from` on: at most eight.
+fn read_segments(text: &[u8], from: usize, issue: usize, kept: &mut [u32]) -> Listed
+    ensures is { λ r. ⌜ paperListed r ≡ seenFrom most (now (text .entry)) issue from ⌝ }
+    ensures segments { λ r. ⌜ r .segments ≡ segmentsFor (segmentsIn (r .segments)) ⌝ }
+    ensures sized { λ r. ⌜ Sized (r .segments) ⌝ }
+    ensures kept { λ r. ⌜ now (kept .exit) ≡ keptFrom (now (text .entry)) issue 0 (segmentsIn (r .segments)) (now (kept .entry)) ⌝ }
+{
+    let mut held = unread();
     let mut count = 0;
     let mut at = from;
     loop {
@@ -382,36 +446,25 @@ pub struct Bulletin {
 
 // A refusal, with no segment.
 fn nothing(r: Refusal) -> Bulletin
-    ensures is { λ b. ⌜ paperBulletin b ≡ paperRefusal r ⌝ }
-    ensures sized { λ b. ⌜ Sized (b .segments) ⌝ }
-    ensures none { λ b. ⌜ listOf (b .segments) ≡ [] ⌝ }
+    ensures { λ b. ⌜ b ≡ refusedFor r ⌝ }
 {
-    let held = [Segment {
-        start: 0,
-        block: 0,
-        past: 0,
-        purge: 0,
+    let segments = Segments {
+        held: unread(),
         count: 0,
-    }; 8];
-    let segments = Segments { held, count: 0 };
+    };
     let reading = Reading::Refused(r);
     Bulletin { reading, segments }
 }
 
 // The segments from `from` on, under a head.
 fn read_listed(text: &[u8], from: usize, head: Head, kept: &mut [u32]) -> Bulletin
-    ensures is { λ r. ⌜ paperBulletin r ≡ listedOf (now (text .entry)) from head ⌝ }
-    ensures sized { λ r. ⌜ Sized (r .segments) ⌝ }
-    ensures kept { λ r. ⌜ now (kept .exit) ≡ keptFrom (now (text .entry)) (head .issue) 0 (listOf (r .segments)) (now (kept .entry)) ⌝ }
+    ensures { λ r. ⌜ Answers (now (text .entry)) (listedOf (now (text .entry)) from head) (now (kept .entry)) (now (kept .exit)) r ⌝ }
 {
     let listed = read_segments(text, from, head.issue, kept);
     let segments = listed.segments;
     let ending = listed.ending;
     match ending {
-        Ending::Refused(r) => {
-            let reading = Reading::Refused(r);
-            Bulletin { reading, segments }
-        }
+        Ending::Refused(r) => nothing(r),
         Ending::Whole => {
             if segments.count == 0 {
                 let place = text.len();
@@ -426,9 +479,7 @@ fn read_listed(text: &[u8], from: usize, head: Head, kept: &mut [u32]) -> Bullet
 
 // The storm and the segments, below the top.
 fn read_below(text: &[u8], top: Top, kept: &mut [u32]) -> Bulletin
-    ensures is { λ r. ⌜ paperBulletin r ≡ belowOf (now (text .entry)) top ⌝ }
-    ensures sized { λ r. ⌜ Sized (r .segments) ⌝ }
-    ensures kept { λ r. ⌜ now (kept .exit) ≡ keptFrom (now (text .entry)) (top .issue) 0 (listOf (r .segments)) (now (kept .entry)) ⌝ }
+    ensures { λ r. ⌜ Answers (now (text .entry)) (belowOf (now (text .entry)) top) (now (kept .entry)) (now (kept .exit)) r ⌝ }
 {
     let third = top.third;
     let mnd = after_first(text, third, Sought::Blank);
@@ -450,12 +501,9 @@ fn read_below(text: &[u8], top: Top, kept: &mut [u32]) -> Bulletin
     }
 }
 
-// A whole bulletin, under the year and month of its issue. The places of segment i, counted from 0, are kept in the lent numbers from 120 * i on, if there is room
-// for 120 there; of a refused bulletin, those of the segments before the refusal. The other numbers stay as they were.
-pub fn read_keeping(text: &[u8], year: usize, month: usize, kept: &mut [u32]) -> Bulletin
-    ensures is { λ r. ⌜ paperBulletin r ≡ reported (readBulletin (now (text .entry)) year month) ⌝ }
-    ensures sized { λ r. ⌜ Sized (r .segments) ⌝ }
-    ensures kept { λ r. ⌜ now (kept .exit) ≡ keptUnder (now (text .entry)) (topOf (now (text .entry)) year month) (listOf (r .segments)) (now (kept .entry)) ⌝ }
+// A whole bulletin, under the year and month of its issue. While it is read, the places of segment i, counted from 0, are kept from 120 * i on, if there is room for 120 there.
+fn read_into(text: &[u8], year: usize, month: usize, kept: &mut [u32]) -> Bulletin
+    ensures { λ r. ⌜ Answers (now (text .entry)) (reported (readBulletin (now (text .entry)) year month)) (now (kept .entry)) (now (kept .exit)) r ⌝ }
 {
     let verdict = check(text, year, month);
     match verdict {
@@ -467,13 +515,50 @@ pub fn read_keeping(text: &[u8], year: usize, month: usize, kept: &mut [u32]) ->
     }
 }
 
+// Hands the places of the segments on, from the numbers that they were kept in to others.
+fn hand_on(kept: &mut [u32], own: &[u32], segments: Segments)
+    requires { ⌜ length (now own) ≡ 960 ⌝ }
+    requires { ⌜ Sized segments ⌝ }
+    ensures { λ _. ⌜ now (kept .exit) ≡ handedOn (now (own .entry)) (segmentsIn segments) (now (kept .entry)) ⌝ }
+{
+    let held = segments.held;
+    let count = segments.count;
+    let mut i: usize = 0;
+    while i < count {
+        let g = held[i];
+        let from = 120 * i;
+        let to = from + g.count;
+        keep(kept, from, &own[from..to]);
+        i += 1;
+    }
+}
+
+// A whole bulletin, under the year and month of its issue. If it is accepted, the places of segment i, counted from 0, are in the lent numbers from 120 * i on, if there is
+// room for 120 there. The other numbers stay as they were, and on a refusal all of them: so they are kept apart until the bulletin is read.
+pub fn read_keeping(text: &[u8], year: usize, month: usize, kept: &mut [u32]) -> Bulletin
+    ensures is { λ r. ⌜ Keeps (now (kept .entry)) (now (kept .exit)) (now (text .entry)) year month r ⌝ }
+    ensures sized { λ r. ⌜ Sized (r .segments) ⌝ }
+{
+    let mut own: [u32; 960] = [0; 960];
+    let bulletin = read_into(text, year, month, &mut own);
+    let segments = bulletin.segments;
+    let reading = bulletin.reading;
+    match reading {
+        Reading::Refused(_) => bulletin,
+        Reading::Accepted(_) => {
+            hand_on(kept, &own, segments);
+            bulletin
+        }
+    }
+}
+
 // The same, and no places are kept.
 pub fn read(text: &[u8], year: usize, month: usize) -> Bulletin
-    ensures is { λ r. ⌜ paperBulletin r ≡ reported (readBulletin (now (text .entry)) year month) ⌝ }
+    ensures is { λ r. ⌜ Reads (now (text .entry)) year month r ⌝ }
     ensures sized { λ r. ⌜ Sized (r .segments) ⌝ }
 {
     let mut none: [u32; 1] = [0; 1];
-    read_keeping(text, year, month, &mut none)
+    read_into(text, year, month, &mut none)
 }
 
 pub enum Viewed {

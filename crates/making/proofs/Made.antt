@@ -7,35 +7,23 @@ use mathlib.Core.List.{List, [], _∷_}
 use mathlib.Core.Option.{Option}
 use lib.ListN.{length}
 use Rattle.laws.proofs.Tests.{by, apart}
-use Rattle.laws.proofs.Lists.{All, all-nil, all-cons, all-map}
-use Rattle.refusal.specs.Answer.{Answer, ok, no, refused, must, andThen}
+use Rattle.laws.proofs.Lists.{All, all-nil, all-cons}
+use Rattle.refusal.specs.Answer.{Answer, ok, refused, must}
 use Rattle.lines.specs.Lines.{Line, linesOf, blank, isEnd, opens}
 use Rattle.codes.specs.Block.{Content, contentAt}
+use Rattle.reading.specs.Placed.{placedAt}
+use Rattle.reading.proofs.Placing.{placed-parts}
 use Rattle.bulletin.specs.Search.{fromFirst, later, closes}
 use Rattle.bulletin.specs.Mnd.{pastMnd}
-use Rattle.bulletin.specs.Segments as segments
-use Rattle.bulletin.specs.Segments.{Segment, ended, opened, ninth, segmentsFrom, segmentsOf, fromLine3, firstLines, most}
+use Rattle.bulletin.specs.Segments.{Segment, runsTo, pastPurge, opened, ninth, segmentsFrom, segmentsOf, fromLine3, firstLines, most, oneOrMore}
 use Rattle.bulletin.specs.Bulletin.{Bulletin, issued, readBulletin}
+use Rattle.bulletin.proofs.Saying.{then-back, ok-one, by-then}
 use Rattle.refusal.specs.Numbers.{wrongTime, wrongBlock}
 use Rattle.calendar.specs.Calendar.{isIssueMonth, minuteOf}
 use Rattle.calendar.specs.declared.Stamp.{Stamp}
 use Rattle.heading.specs.Heading.{Heading}
 use Rattle.heading.specs.Storm.{StormName}
 use Rattle.making.proofs.Openings.{From, from-all, from-step, from-later, from-first, first-passes, Opens}
-
--- an answer that comes after another is accepted only after that one
-pub record Then {A B : Type 0} (a : Answer A) (f : A → Answer B) (y : B) : Type 0 where
-  pub value : A
-  pub first : a ≡ ok value
-  pub rest : f value ≡ ok y
-
-pub then-back : {A B : Type 0} (a : Answer A) (f : A → Answer B) (y : B) → andThen a f ≡ ok y → Then a f y
-unfolding andThen
-then-back (ok x) f y e = record { value = x; first = refl; rest = e }
-then-back (no number place) f y e = apart cc
-
-pub ok-one : {A : Type 0} (x y : A) → _≡_ {A = Answer A} (ok x) (ok y) → x ≡ y
-ok-one x y e = cc
 
 -- ---- the segments
 module _ (text : List ℕ) (issue : ℕ) where
@@ -60,10 +48,10 @@ module _ (text : List ℕ) (issue : ℕ) where
   one-more n g gs s t = record { few = suc-le-suc (t .few); each = all-cons s (t .each) }
 
   module _ (n : ℕ) (next : List Line → Answer (List Segment)) (h : Next n next) where
-    ended-read : (l : Line) (c : Content) → Opens text (l .start) → contentAt text issue (l .start) ≡ ok c
-        → (ls : List Line) → From text ls → (gs : List Segment) → ended text l c next ls ≡ ok gs → Standing (suc n) gs
-    ended-read l c o e [] f gs g = apart cc
-    ended-read l c o e (x ∷ ls) f gs g =
+    ended-read : (start past : ℕ) (c : Content) → Opens text start → contentAt text issue start ≡ ok c
+        → (ls : List Line) → From text ls → (gs : List Segment) → runsTo start past c next ls ≡ ok gs → Standing (suc n) gs
+    ended-read start past c o e [] f gs g = apart cc
+    ended-read start past c o e (x ∷ ls) f gs g =
         let t = then-back (next ls) _ gs g in
         subst (Standing (suc n)) (ok-one _ gs (t .rest))
         (one-more n _ (t .value) (record { opening = o; says = e }) (h ls (from-step text x ls f .rest) (t .value) (t .first)))
@@ -72,9 +60,9 @@ module _ (text : List ℕ) (issue : ℕ) where
         → (gs : List Segment) → opened text issue next ls ≡ ok gs → Standing (suc n) gs
     opened-read [] f p gs e = none-stand (suc n) gs e
     opened-read (l ∷ ls) f p gs e =
-        let t = then-back (contentAt text issue (l .start)) (λ c. ended text l c next (fromFirst isEnd (l ∷ ls))) gs e in
+        let t = then-back (placedAt text issue (l .start)) (λ p. runsTo (l .start) (pastPurge (p .at) l ls) (p .content) next (fromFirst isEnd (l ∷ ls))) gs e in
         let o : Opens text (l .start) = record { line = l; lines = ls; are = from-step text l ls f .here; passes = p l ls refl } in
-        ended-read l (t .value) o (t .first) (fromFirst isEnd (l ∷ ls)) (from-first text isEnd (l ∷ ls) f) gs (t .rest)
+        ended-read (l .start) (pastPurge (t .value .at) l ls) (t .value .content) o (placed-parts text issue (l .start) (t .value) (t .first) .content) (fromFirst isEnd (l ∷ ls)) (from-first text isEnd (l ∷ ls) f) gs (t .rest)
 
   ninth-read : (ls : List Line) (gs : List Segment) → ninth ls ≡ ok gs → Standing 0 gs
   ninth-read [] gs e = none-stand 0 gs e
@@ -111,15 +99,9 @@ record Some (gs hs : List Segment) : Type 0 where
   same : gs ≡ hs
   one : 1 ≤ length hs
 
-some-same : (stop : ℕ) (gs hs : List Segment) → segments.some stop gs ≡ ok hs → Some gs hs
+some-same : (stop : ℕ) (gs hs : List Segment) → oneOrMore stop gs ≡ ok hs → Some gs hs
 some-same stop [] hs e = apart cc
 some-same stop (g ∷ gs) hs e = let p = ok-one (g ∷ gs) hs e in record { same = p; one = subst (λ (l : List Segment). 1 ≤ length l) p (omega arith) }
-
--- what comes after an accepted answer
-pub by-then : {A B P : Type 0} (a : Answer A) (f : A → Answer B) (y : B) → ((x : A) → a ≡ ok x → f x ≡ ok y → P) → andThen a f ≡ ok y → P
-by-then a f y go e =
-    let t = then-back a f y e in
-    go (t .value) (t .first) (t .rest)
 
 -- what a bulletin that is read went through
 pub record Read (text : List ℕ) (year month : ℕ) (b : Bulletin) : Type 0 where
@@ -166,6 +148,3 @@ lines-read text issue gs =
 module _ (text : List ℕ) (year month : ℕ) (b : Bulletin) (e : readBulletin text year month ≡ ok b) where
   pub segmented : Segmented text (b .issue) (b .segments)
   segmented = lines-read text (b .issue) (b .segments) (read-back text year month b e .listed)
-
-  pub contents-read : All (λ (g : Segment). contentAt text (b .issue) (g .start) ≡ ok (g .content)) (b .segments)
-  contents-read = all-map (λ g s. s .says) (segmented .standing .each)

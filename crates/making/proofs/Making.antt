@@ -8,9 +8,7 @@ use mathlib.Core.Option.{some}
 use lib.ListN.{length, take, drop, getElem?, length-map}
 use lib.Seq.{length-take-le}
 use borrow.Author.Tests.{ne-eqb}
-use Rattle.laws.proofs.Tests.{apart}
-use Rattle.laws.proofs.Lists.{All, all-each, all-found}
-use Rattle.laws.proofs.Lookups.{some-same}
+use Rattle.laws.proofs.Lists.{All, all-each}
 use Rattle.refusal.specs.Numbers.{wrongLength}
 use Rattle.refusal.specs.Answer.{Answer, ok, no, refused, refusalFor, andThen, paperVerdict}
 use Rattle.refusal.specs.declared.Refusal.{Refusal}
@@ -21,16 +19,14 @@ use Rattle.codes.specs.Block.{Content, contentAt}
 use Rattle.bulletin.specs.Segments as segments
 use Rattle.bulletin.specs.Bulletin as rule
 use Rattle.bulletin.specs.Bulletin.{readBulletin}
-use Rattle.bulletin.specs.Seen.{seen, listOf, Sized}
-use Rattle.bulletin.specs.Report.{reported, reportOf, paperBulletin}
-use Rattle.bulletin.specs.Front.{topOf}
-use Rattle.bulletin.specs.Kept.{placesOf, keptFrom, keptUnder}
+use Rattle.bulletin.specs.Seen.{seen, segmentsIn, Sized}
+use Rattle.bulletin.specs.Report.{reported, reportOf, Reads}
+use Rattle.bulletin.specs.Kept.{keepEach, placesOf, keptOf, Keeps}
 use Rattle.bulletin.specs.declared.Segment.{Segment}
 use Rattle.bulletin.specs.declared.Head.{Head}
 use Rattle.bulletin.specs.declared.Reading.the-variants as reading
 use Rattle.bulletin.specs.declared.Bulletin.{Bulletin}
-use Rattle.bulletin.proofs.Keeping.{kept-part}
-use Rattle.bulletin.proofs.Reports.{kept-accepted}
+use Rattle.bulletin.proofs.Saying.{contents-said, part-is, Told, told-by, refused-by}
 use Rattle.blocks.specs.Block.{bookLength}
 use Rattle.steps.specs.Book.{Book, newBook}
 use Rattle.layout.specs.Layout.{bytesOf}
@@ -38,17 +34,11 @@ use Rattle.layout.proofs.Forth.{issue-low}
 use Rattle.making.specs.Make.{bookFrom, makeRule, madeAnswer, madeBytes, Makes}
 use Rattle.making.specs.Fill.{contentsFrom, Storable, Filled, Indexed}
 use Rattle.making.proofs.Filling.{content-kept}
-use Rattle.making.proofs.Made.{contents-read}
 use Rattle.making.proofs.Sounding.{made-issue}
 
 -- ---- the segments of a bulletin
 abbrev contentOf : segments.Segment → Content
 contentOf g = g .content
-
-get-seen : (gs : List segments.Segment) (k : ℕ) (g : segments.Segment) → getElem? gs k ≡ some g → getElem? (map seen gs) k ≡ some (seen g)
-get-seen [] k g e = apart cc
-get-seen (x ∷ gs) zero g e = ap (λ (y : segments.Segment). some (seen y)) (some-same e)
-get-seen (x ∷ gs) (suc k) g e = get-seen gs k g e
 
 contents-by : (kept : List ℕ) (i : ℕ) (gs : List segments.Segment)
     → ((k : ℕ) (g : segments.Segment) → getElem? gs k ≡ some g → take (length (g .content .places)) (drop (capacity * (i + k)) kept) ≡ g .content .places)
@@ -66,13 +56,8 @@ module _ (text : List ℕ) (issue : ℕ) (gs : List segments.Segment) (a : All (
   storable = all-each seen (λ g e. let k = content-kept text issue (g .start) (g .content) e in record { few = k .few; low = k .low }) a
 
   -- the contents that are kept are theirs
-  contents-kept : (ks : List ℕ) → length gs ≤ 8 → length ks ≡ 960 → contentsFrom 0 (keptFrom text issue 0 (map seen gs) ks) (map seen gs) ≡ map contentOf gs
-  contents-kept ks few long =
-      contents-by (keptFrom text issue 0 (map seen gs) ks) 0 gs
-      (λ k g e. let says : contentAt text issue (g .start) ≡ ok (g .content) = all-found k a e in
-      rw (zero-add k)
-      (kept-part text issue (map seen gs) ks (omega (arith, length-map gs seen)) k (seen g) (get-seen gs k g e) (g .content .places) (ap placesOf says)
-      (content-kept text issue (g .start) (g .content) says .few)))
+  contents-kept : (ks : List ℕ) → length gs ≤ 8 → length ks ≡ 960 → contentsFrom 0 (keepEach placesOf 0 gs ks) (map seen gs) ≡ map contentOf gs
+  contents-kept ks few long = contents-by (keepEach placesOf 0 gs ks) 0 gs (λ k g e. rw (zero-add k) (part-is text issue gs a ks few long k g e))
 
 -- what the rule says gives the promise
 ruled : (l d text : List ℕ) (year month : ℕ) (r : Verdict) (a : Answer Book) → makeRule l text year month ≡ a → paperVerdict r ≡ madeAnswer a → d ≡ madeBytes a l
@@ -89,37 +74,18 @@ rule-long : (l text : List ℕ) (year month : ℕ) → length l ≡ bookLength �
 unfolding makeRule andThen
 rule-long l text year month h a e = rw (h, e)
 
--- ---- what the reader's answer says of the bulletin
-pub record Told (text : List ℕ) (year month : ℕ) (h : Head) (gs : List Segment) : Type 0 where
-  pub said : rule.Bulletin
-  pub read : readBulletin text year month ≡ ok said
-  pub issue : h .issue ≡ said .issue
-  pub seen-are : gs ≡ map seen (said .segments)
-
-pub told-by : (text : List ℕ) (year month : ℕ) (h : Head) (gs : List Segment) (a : Answer rule.Bulletin) → readBulletin text year month ≡ a
-    → ok (reportOf h gs) ≡ reported a → Told text year month h gs
-told-by text year month h gs (ok b) e f =
-    let p : reportOf h gs ≡ record { heading = b .heading; identifier = b .identifier; issue = b .issue; storm = b .storm; segments = map seen (b .segments) } = cc in
-    record { said = b; read = e; issue = λ i. p i .issue; seen-are = λ i. p i .segments }
-told-by text year month h gs (no number place) e f = apart cc
-
-pub refused-by : (text : List ℕ) (year month : ℕ) (r : Refusal) (a : Answer rule.Bulletin) → readBulletin text year month ≡ a
-    → no (r .number) (r .place) ≡ reported a → readBulletin text year month ≡ no (r .number) (r .place)
-refused-by text year month r (ok b) e f = apart cc
-refused-by text year month r (no number place) e f =
-    let n : number ≡ r .number = cc in
-    let p : place ≡ r .place = cc in
-    e ∙ ap₂ no n p
-
 -- ---- the ways out
 module _ (l text : List ℕ) (year month : ℕ) where
   pub make-short : (length l ≡ bookLength → ⊥) → (r : Verdict) → r ≡ verdict.Refused (refusalFor wrongLength 0) → Makes l l text year month r
   make-short h r e = ruled l l text year month r (refused wrongLength 0) (rule-short l text year month h) (ap paperVerdict e) refl
 
-  module _ (b : Bulletin) (eb : paperBulletin b ≡ reported (readBulletin text year month)) where
+  module _ (b : Bulletin) (ks₀ ks : List ℕ) (kept : Keeps ks₀ ks text year month b) where
+    reads : Reads text year month b
+    reads = kept .answer
+
     module _ (r : Refusal) (q : b .reading ≡ reading.Refused r) where
       read-no : no (r .number) (r .place) ≡ reported (readBulletin text year month)
-      read-no = rw q at eb
+      read-no = rw q at (reads .says)
 
       pub make-refused : length l ≡ bookLength → Makes l l text year month (verdict.Refused r)
       unfolding andThen
@@ -128,18 +94,18 @@ module _ (l text : List ℕ) (year month : ℕ) where
           ruled l l text year month (verdict.Refused r) (no (r .number) (r .place)) (rule-long l text year month h (no (r .number) (r .place)) e) refl refl
 
     module _ (h : Head) (q : b .reading ≡ reading.Accepted h) where
-      read-ok : ok (reportOf h (listOf (b .segments))) ≡ reported (readBulletin text year month)
-      read-ok = rw q at eb
+      read-ok : ok (reportOf h (segmentsIn (b .segments))) ≡ reported (readBulletin text year month)
+      read-ok = rw q at (reads .says)
 
-      told : Told text year month h (listOf (b .segments))
-      told = told-by text year month h (listOf (b .segments)) (readBulletin text year month) refl read-ok
+      told : Told text year month h (segmentsIn (b .segments))
+      told = told-by text year month h (segmentsIn (b .segments)) (readBulletin text year month) refl read-ok
 
       -- the issue has 32 bits
       pub make-issue : h .issue < 4294967296
       make-issue = let e = told .issue in omega (arith, issue-low (told .said .issue) (made-issue text year month (told .said) (told .read)))
 
-      pub make-storable : All Storable (listOf (b .segments))
-      make-storable = subst (All Storable) (sym (told .seen-are)) (storable text (told .said .issue) (told .said .segments) (contents-read text year month (told .said) (told .read)))
+      pub make-storable : All Storable (segmentsIn (b .segments))
+      make-storable = subst (All Storable) (sym (told .seen-are)) (storable text (told .said .issue) (told .said .segments) (contents-said text year month (told .said) (told .read)))
 
       module _ (z : Sized (b .segments)) where
         long : length (told .said .segments) ≡ b .segments .count
@@ -148,21 +114,18 @@ module _ (l text : List ℕ) (year month : ℕ) where
             ∙ ap (λ (gs : List Segment). length gs) (sym (told .seen-are))
             ∙ length-take-le (b .segments .count) (b .segments .held) (omega (arith, z .long, z .few))
 
-        contents-are : (ks₀ ks : List ℕ) → length ks₀ ≡ 960 → ks ≡ keptUnder text (topOf text year month) (listOf (b .segments)) ks₀
-            → contentsFrom 0 ks (listOf (b .segments)) ≡ map contentOf (told .said .segments)
-        contents-are ks₀ ks k e =
+        contents-are : length ks₀ ≡ 960 → contentsFrom 0 ks (segmentsIn (b .segments)) ≡ map contentOf (told .said .segments)
+        contents-are k =
             let few : length (told .said .segments) ≤ 8 = omega (arith, long, z .few) in
-            let f : ks ≡ keptFrom text (told .said .issue) 0 (listOf (b .segments)) ks₀ = e ∙ kept-accepted text year month (told .said) (told .read) (listOf (b .segments)) ks₀ in
-            ap (λ (l : List ℕ). contentsFrom 0 l (listOf (b .segments))) f
-            ∙ ap (λ (gs : List Segment). contentsFrom 0 (keptFrom text (told .said .issue) 0 gs ks₀) gs) (told .seen-are)
-            ∙ contents-kept text (told .said .issue) (told .said .segments) (contents-read text year month (told .said) (told .read)) ks₀ few k
+            let f : ks ≡ keepEach placesOf 0 (told .said .segments) ks₀ = kept .left ∙ ap (λ (x : Answer rule.Bulletin). keptOf x ks₀) (told .read) in
+            ap₂ (λ (l : List ℕ) (gs : List Segment). contentsFrom 0 l gs) f (told .seen-are)
+            ∙ contents-kept text (told .said .issue) (told .said .segments) (contents-said text year month (told .said) (told .read)) ks₀ few k
 
-        pub make-made : length l ≡ bookLength → (ks₀ ks : List ℕ) → length ks₀ ≡ 960 → ks ≡ keptUnder text (topOf text year month) (listOf (b .segments)) ks₀
-            → (l₁ d : List ℕ) → Filled (contentsFrom 0 ks (listOf (b .segments))) l₁ → Indexed l₁ (h .issue) (b .segments .count) d → Makes l d text year month verdict.Accepted
+        pub make-made : length l ≡ bookLength → length ks₀ ≡ 960 → (l₁ d : List ℕ) → Filled (contentsFrom 0 ks (segmentsIn (b .segments))) l₁ → Indexed l₁ (h .issue) (b .segments .count) d → Makes l d text year month verdict.Accepted
         unfolding andThen
-        make-made g ks₀ ks k e l₁ d f i =
+        make-made g k l₁ d f i =
             let cs : List Content = map contentOf (told .said .segments) in
-            let filled : Filled cs l₁ = subst (λ (x : List Content). Filled x l₁) (contents-are ks₀ ks k e) f in
+            let filled : Filled cs l₁ = subst (λ (x : List Content). Filled x l₁) (contents-are k) f in
             ruled l d text year month verdict.Accepted (ok (bookFrom (told .said)))
             (rule-long l text year month g (ok (told .said)) (told .read)) refl
             (i .whole cs (length-map (told .said .segments) contentOf ∙ long) (omega (arith, z .few)) filled

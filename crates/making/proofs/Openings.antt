@@ -18,7 +18,8 @@ use Rattle.codes.specs.Elements.{Element, elementsAt, elementsOfBody, elementsO
 use Rattle.codes.specs.Block.{block, readBlock, here}
 use Rattle.codes.proofs.Bounds.{covers-low}
 use Rattle.roundtrip.proofs.Covered.{Told, told-purge, told-more, told, covered-in}
-use Rattle.bulletin.specs.Search.{fromFirst, later, linesOn}
+use Rattle.bulletin.specs.Search.{fromFirst, later}
+use Rattle.bulletin.specs.Searching.{linesOn}
 
 -- ---- lines of a text
 module _ (text : List ℕ) where

@@ -13,7 +13,9 @@ use Rattle.refusal.specs.Answer.{ok, no, refusalFor, andThen}
 use Rattle.refusal.specs.declared.Refusal.{Refusal}
 use Rattle.codes.specs.Block as codes
 use Rattle.codes.specs.Block.{contentAt}
-use Rattle.reading.specs.Held.{Good, contentOf, paperContent}
+use Rattle.reading.specs.Placed.{placedAt}
+use Rattle.reading.specs.Held.{Good, contentFor, contentOf, paperContent}
+use Rattle.reading.proofs.Placing.{content-told}
 use Rattle.reading.specs.Held as held
 use Rattle.reading.specs.declared.Purge.{Purge}
 use Rattle.reading.specs.declared.Purge.the-variants as purge
@@ -21,19 +23,18 @@ use Rattle.reading.specs.declared.Content.{Content}
 use Rattle.bulletin.specs.Segments as segments
 use Rattle.bulletin.specs.Bulletin as rule
 use Rattle.bulletin.specs.Bulletin.{readBulletin}
-use Rattle.bulletin.specs.Seen.{seen, listOf, Sized}
-use Rattle.bulletin.specs.Report.{reported, reportOf, paperBulletin}
+use Rattle.bulletin.specs.Seen.{seen, segmentsIn, Sized}
+use Rattle.bulletin.specs.Report.{reported, reportOf, Reads}
 use Rattle.bulletin.specs.declared.Segment.{Segment}
 use Rattle.bulletin.specs.declared.Head.{Head}
 use Rattle.bulletin.specs.declared.Reading.the-variants as reading
 use Rattle.bulletin.specs.declared.Bulletin.{Bulletin}
+use Rattle.bulletin.proofs.Saying.{contents-said, Told, told-by, refused-by}
 use Rattle.steps.specs.Book.{at}
 use Rattle.layout.specs.Rule.{paperReply}
 use Rattle.layout.specs.declared.Reply.{Reply}
 use Rattle.layout.specs.declared.Reply.the-variants as reply
 use Rattle.making.specs.Make.{orNoSegment}
-use Rattle.making.proofs.Made.{contents-read}
-use Rattle.making.proofs.Making.{Told, told-by, refused-by}
 use Rattle.plugin.specs.Rules.{contentsOf, placeAnswer, placeIn, placeAt}
 
 -- an element of a list, and none past its end
@@ -48,24 +49,27 @@ at-none (x ∷ l) zero h = impossible (omega arith)
 at-none (x ∷ l) (suc i) h = at-none l i (omega arith)
 
 -- ---- in a block that is read again
-module _ (s : List ℕ) (issue start i : ℕ) (k : Content) (e : paperContent k ≡ contentAt s issue start) where
+module _ (s : List ℕ) (issue start i : ℕ) (k : Content) (w : k ≡ contentFor (placedAt s issue start)) where
+  e : paperContent k ≡ contentAt s issue start
+  e = content-told s issue start k w
+
   pub place-no : (y : Refusal) → k .purge ≡ purge.Refused y → paperReply (reply.Refused y) ≡ placeAnswer i (contentAt s issue start)
   place-no y q = ap (λ (p : Purge). placeAnswer i (contentOf p (k .places))) (sym q) ∙ ap (placeAnswer i) e
 
-  module _ (t : ℕ) (q : k .purge ≡ purge.At t) (g : Good (k .places)) where
-    placed : placeAt (getElem? (held.listOf (k .places)) i) ≡ placeAnswer i (contentAt s issue start)
+  module _ (t at : ℕ) (q : k .purge ≡ purge.At t at) (g : Good (k .places)) where
+    placed : placeAt (getElem? (held.placesIn (k .places)) i) ≡ placeAnswer i (contentAt s issue start)
     placed = ap (λ (p : Purge). placeAnswer i (contentOf p (k .places))) (sym q) ∙ ap (placeAnswer i) e
 
-    long : length (held.listOf (k .places)) ≡ k .places .count
+    long : length (held.placesIn (k .places)) ≡ k .places .count
     long = length-take-le (k .places .count) (k .places .held) (omega (arith, g .long, g .few))
 
     pub place-far : k .places .count ≤ i → (r : Reply) → r ≡ reply.Refused (refusalFor outOfRange 0) → paperReply r ≡ placeAnswer i (contentAt s issue start)
-    place-far h r er = ap paperReply er ∙ ap placeAt (sym (at-none (held.listOf (k .places)) i (omega (arith, long)))) ∙ placed
+    place-far h r er = ap paperReply er ∙ ap placeAt (sym (at-none (held.placesIn (k .places)) i (omega (arith, long)))) ∙ placed
 
     pub place-in : i < k .places .count → (w : ℕ) → w ≡ getD (k .places .held) i 0 → paperReply (reply.Number w) ≡ placeAnswer i (contentAt s issue start)
     place-in h w ew =
         ap (λ (p : ℕ). paperReply (reply.Number p)) (ew ∙ sym (getD-take (k .places .count) (k .places .held) i 0 h))
-        ∙ ap placeAt (sym (at-some (held.listOf (k .places)) i 0 (omega (arith, long)))) ∙ placed
+        ∙ ap placeAt (sym (at-some (held.placesIn (k .places)) i 0 (omega (arith, long)))) ∙ placed
 
 -- ---- of segment n
 -- what stands at the start of a segment that is seen is its content
@@ -85,18 +89,18 @@ module _ (s : List ℕ) (year month n i : ℕ) where
   unfolding placeIn andThen
   rule-ok b e = rw e
 
-  module _ (b : Bulletin) (eb : paperBulletin b ≡ reported (readBulletin s year month)) where
+  module _ (b : Bulletin) (reads : Reads s year month b) where
     pub find-no : (y : Refusal) → b .reading ≡ reading.Refused y → paperReply (reply.Refused y) ≡ placeIn s year month n i
     find-no y q =
-        let f : no (y .number) (y .place) ≡ reported (readBulletin s year month) = rw q at eb in
+        let f : no (y .number) (y .place) ≡ reported (readBulletin s year month) = rw q at (reads .says) in
         sym (rule-no (y .number) (y .place) (refused-by s year month y (readBulletin s year month) refl f))
 
     module _ (h : Head) (q : b .reading ≡ reading.Accepted h) where
-      read-ok : ok (reportOf h (listOf (b .segments))) ≡ reported (readBulletin s year month)
-      read-ok = rw q at eb
+      read-ok : ok (reportOf h (segmentsIn (b .segments))) ≡ reported (readBulletin s year month)
+      read-ok = rw q at (reads .says)
 
-      told : Told s year month h (listOf (b .segments))
-      told = told-by s year month h (listOf (b .segments)) (readBulletin s year month) refl read-ok
+      told : Told s year month h (segmentsIn (b .segments))
+      told = told-by s year month h (segmentsIn (b .segments)) (readBulletin s year month) refl read-ok
 
       pub find-low : n < 1 → (r : Reply) → r ≡ reply.Refused (refusalFor noSuchSegment 0) → paperReply r ≡ placeIn s year month n i
       find-low k r er =
@@ -127,6 +131,6 @@ module _ (s : List ℕ) (year month n i : ℕ) where
             = sym (getD-take (b .segments .count) (b .segments .held) (n - 1) d (omega arith)) ∙ ap (λ (gs : List Segment). getD gs (n - 1) d) (told .seen-are) in
             er
             ∙ ap₂ (λ (t : ℕ) (g : Segment). placeAnswer i (contentAt s t (g .start))) (told .issue) same
-            ∙ ap (placeAnswer i) (content-again s (told .said .issue) (told .said .segments) (n - 1) d (contents-read s year month (told .said) (told .read)) (omega (arith, many)))
+            ∙ ap (placeAnswer i) (content-again s (told .said .issue) (told .said .segments) (n - 1) d (contents-said s year month (told .said) (told .read)) (omega (arith, many)))
             ∙ ap (λ (m : ℕ). placeAnswer i (orNoSegment (at (contentsOf (told .said)) m))) (sym one)
             ∙ sym (rule-ok (told .said) (told .read))

@@ -9,8 +9,8 @@ use Rattle.refusal.specs.declared.Refusal.{Refusal}
 use Rattle.refusal.specs.Answer.{Answer}
 use Rattle.heading.specs.Paper.{paperBbb, paperStorm}
 use Rattle.bulletin.specs.Bulletin.{readBulletin}
-use Rattle.bulletin.specs.Seen.{listOf, Sized}
-use Rattle.bulletin.specs.Report.{Report, reported, reportOf, readingOf, paperBulletin}
+use Rattle.bulletin.specs.Seen.{segmentsIn, Sized}
+use Rattle.bulletin.specs.Report.{Report, reported, reportOf, readingOf, Reads}
 use Rattle.bulletin.specs.View.{paperViewed}
 use Rattle.bulletin.specs.declared.Segment.{Segment}
 use Rattle.bulletin.specs.declared.Head.{Head}
@@ -23,16 +23,16 @@ use Rattle.packing.specs.Packing.{cell, pack, bbbBits, stormBits, viewBits}
 use Rattle.plugin.specs.Rules.{issueIn, countIn, bbbIn, identifierIn, stormBitsIn, viewBitsOf, blockEndOf, purgeMinuteOf, countOf}
 
 -- ---- of a bulletin
-module _ (s : List ℕ) (year month : ℕ) (b : Bulletin) (eb : paperBulletin b ≡ reported (readBulletin s year month)) where
+module _ (s : List ℕ) (year month : ℕ) (b : Bulletin) (reads : Reads s year month b) where
   as-read : (f : Report → ℕ) (o : Reading) (r : ℕ) → b .reading ≡ o → r ≡ pack f (readingOf o (b .segments)) → r ≡ pack f (reported (readBulletin s year month))
-  as-read f o r q e = e ∙ ap (λ (z : Reading). pack f (readingOf z (b .segments))) (sym q) ∙ ap (pack f) eb
+  as-read f o r q e = e ∙ ap (λ (z : Reading). pack f (readingOf z (b .segments))) (sym q) ∙ ap (pack f) (reads .says)
 
   pub read-no : (f : Report → ℕ) (y : Refusal) → b .reading ≡ reading.Refused y → (r : ℕ) → r ≡ cell (y .number) (y .place) → r ≡ pack f (reported (readBulletin s year month))
   unfolding pack
   read-no f y q r e = as-read f (reading.Refused y) r q e
 
   module _ (h : Head) (q : b .reading ≡ reading.Accepted h) where
-    read-ok : (f : Report → ℕ) (n r : ℕ) → n ≡ f (reportOf h (listOf (b .segments))) → r ≡ cell 0 n → r ≡ pack f (reported (readBulletin s year month))
+    read-ok : (f : Report → ℕ) (n r : ℕ) → n ≡ f (reportOf h (segmentsIn (b .segments))) → r ≡ cell 0 n → r ≡ pack f (reported (readBulletin s year month))
     unfolding pack
     read-ok f n r en e = as-read f (reading.Accepted h) r q (e ∙ ap (cell 0) en)
 

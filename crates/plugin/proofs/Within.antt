@@ -16,17 +16,15 @@ use Rattle.refusal.specs.Answer.{Answer, ok, no, refused, refusedAt, must, andT
 use Rattle.lines.specs.Bytes.{lf}
 use Rattle.lines.specs.Lines.{glue, pieces, lineEnd, bodyOf, Line, linesAt, linesFrom, linesOf, blank, isEnd, opens}
 use Rattle.lines.specs.Check.{allowed, badByte, lineMost, longLine, lastEnds, unended, least, textFault, checkText}
-use Rattle.lines.proofs.Ends.{nextOf, next-within}
 use Rattle.calendar.specs.Purge.{purgeOf}
 use Rattle.codes.specs.Places.{capacity}
 use Rattle.codes.specs.Elements.{Element, dash, null, elementsAt, elementsOfBody, elementsOfLines, Said, covers, purge, wrong, said}
-use Rattle.codes.specs.Block.{insertCovered, Read, block, wrongAt, ended, readFrom, readBlock, lastOf, Content, dated, contentIn, contentAt}
+use Rattle.codes.specs.Block.{insertCovered, Read, block, wrongAt, ended, readFrom, readBlock, Content, dated, contentIn, contentAt}
 use Rattle.codes.proofs.Turns.{read-covers, read-purge, read-wrong}
-use Rattle.bulletin.proofs.Seeking.{next-is}
+use Rattle.reading.specs.Placed.{purgePlace, placedAt}
 use Rattle.bulletin.specs.Search.{fromFirst, upToFirst, later, closes}
 use Rattle.bulletin.specs.Mnd.{pastMnd}
-use Rattle.bulletin.specs.Segments as segments
-use Rattle.bulletin.specs.Segments.{Segment, pastBlock, opened, ninth, segmentsFrom, fromLine3, firstLines, most, segmentsOf}
+use Rattle.bulletin.specs.Segments.{Segment, pastPurge, runsTo, oneOrMore, opened, ninth, segmentsFrom, fromLine3, firstLines, most, segmentsOf}
 use Rattle.packing.proofs.Kept.{reason-byte}
 
 -- ---- lines
@@ -102,7 +100,11 @@ unfolding elementsOfLines
 elements-lines all-nil = all-nil
 elements-lines {n} (all-cons {x = l} f a) = all-append (elements-body n (l .start) (l .body) (f .end)) (elements-lines a)
 
--- the element that the reading of a block comes to
+-- the place of the element that the reading of a block comes to: the purge, or the first wrong one
+abbrev lastOf : Read → ℕ
+lastOf (block ps s at) = at
+lastOf (wrongAt place) = place
+
 ended-in : (n : ℕ) (t : Bool) (r : Read) (next : ℕ) → lastOf r ≤ n → next ≤ n → lastOf (ended t r next) ≤ n
 ended-in n true r next h k = h
 ended-in n false r next h k = k
@@ -224,6 +226,10 @@ module _ (n start : ℕ) (h : start ≤ n) where
   content-in issue (wrongAt place) k = low-refused n Any wrongBlock place k
   content-in issue (block ps s at) k = dated-low at ps (purgeOf issue s) k
 
+  purge-low : (r : Read) → lastOf r ≤ n → Low n Any (purgePlace r)
+  purge-low (wrongAt place) k = low-refused n Any wrongBlock place k
+  purge-low (block ps s at) k = low-ok at tt
+
 module _ (text : List ℕ) (n : ℕ) (fits : length text ≤ n) where
   -- the lines of a text start in it
   abbrev Starts : Line → Type 0
@@ -238,28 +244,32 @@ module _ (text : List ℕ) (n : ℕ) (fits : length text ≤ n) where
   unfolding contentAt
   content-low issue at h = content-in n at (omega arith) issue (readBlock text at) (omega (arith, block-in at h))
 
-  past-in : (at : ℕ) → at ≤ length text → pastBlock text at ≤ n
-  past-in at h =
-      let last = lastOf (readBlock text at) in
-      let e : pastBlock text at ≡ nextOf text last = next-is text last in
-      omega (arith, next-within text last (block-in at h))
+  placed-low : (issue at : ℕ) → at ≤ length text → Low n Any (placedAt text issue at)
+  unfolding placedAt
+  placed-low issue at h =
+      low-then _ (λ c u. low-then _ (λ p w. low-ok (record { content = c; at = p }) tt) (purge-low n at (omega arith) (readBlock text at) (omega (arith, block-in at h)))) (content-low issue at h)
+
+  -- the line that has the purge is one of the text's
+  past-in : (at : ℕ) (l : Line) (ls : List Line) → Starts l → All Starts ls → pastPurge at l ls ≤ length text
+  unfolding pastPurge
+  past-in at l [] f a = f .next
+  past-in at l (m ∷ ls) f (all-cons g a) = either-way (λ (k : ℕ). k ≤ length text) (ltb at (l .next)) (f .next) (past-in at m ls g a)
 
   abbrev Next : (List Line → Answer (List Segment)) → Type 0
   Next next = (ls : List Line) → All Starts ls → LowSegments n (next ls)
 
-  ended-low : (next : List Line → Answer (List Segment)) → Next next → (l : Line) (c : Content) → Starts l → (ls : List Line) → All Starts ls
-      → LowSegments n (segments.ended text l c next ls)
-  ended-low next i l c f [] a = low-refused n (All (Lies n)) noEnd (l .start) (omega (arith, f .start))
-  ended-low next i l c f (e ∷ ls) (all-cons g a) =
-      low-then _
-      (λ ss p.
-      low-ok _ (all-cons (lies n (l .start) (pastBlock text (l .start)) (e .next) c (omega (arith, f .start)) (past-in (l .start) (f .start)) (omega (arith, g .next))) p))
-      (i ls a)
+  ended-low : (next : List Line → Answer (List Segment)) → Next next → (start past : ℕ) (c : Content) → start ≤ length text → past ≤ length text → (ls : List Line) → All Starts ls
+      → LowSegments n (runsTo start past c next ls)
+  ended-low next i start past c f k [] a = low-refused n (All (Lies n)) noEnd start (omega arith)
+  ended-low next i start past c f k (e ∷ ls) (all-cons g a) =
+      low-then _ (λ ss p. low-ok _ (all-cons (lies n start past (e .next) c (omega arith) (omega arith) (omega (arith, g .next))) p)) (i ls a)
 
   opened-low : (issue : ℕ) (next : List Line → Answer (List Segment)) → Next next → (ls : List Line) → All Starts ls → LowSegments n (opened text issue next ls)
   opened-low issue next i [] a = low-ok [] all-nil
   opened-low issue next i (l ∷ ls) (all-cons f a) =
-      low-then _ (λ c u. ended-low next i l c f (fromFirst isEnd (l ∷ ls)) (from-within isEnd (all-cons f a))) (content-low issue (l .start) (f .start))
+      low-then _
+      (λ p u. ended-low next i (l .start) (pastPurge (p .at) l ls) (p .content) (f .start) (past-in (p .at) l ls f a) (fromFirst isEnd (l ∷ ls)) (from-within isEnd (all-cons f a)))
+      (placed-low issue (l .start) (f .start))
 
   ninth-low : (ls : List Line) → All Starts ls → LowSegments n (ninth ls)
   ninth-low [] a = low-ok [] all-nil
@@ -276,7 +286,7 @@ module _ (text : List ℕ) (n : ℕ) (fits : length text ≤ n) where
       either-way (Low n (All Starts)) (blank (l .body)) (low-ok past p)
       (either-way (Low n (All Starts)) (opens (l .body)) (low-ok (l ∷ ls) (all-cons f a)) (low-refused n (All Starts) wrongBlock (l .start) (omega (arith, f .start))))
 
-  some-low : (gs : List Segment) → All (Lies n) gs → LowSegments n (segments.some (length text) gs)
+  some-low : (gs : List Segment) → All (Lies n) gs → LowSegments n (oneOrMore (length text) gs)
   some-low [] a = low-refused n (All (Lies n)) noSegment (length text) fits
   some-low (g ∷ gs) a = low-ok (g ∷ gs) a
 

@@ -284,7 +284,7 @@ fn place_at(text: &[u8], start: usize, issue: usize, i: usize) -> Reply
     let purge = content.purge;
     match purge {
         Purge::Refused(r) => Reply::Refused(r),
-        Purge::At(_) => {
+        Purge::At(_, _) => {
             if places.count <= i {
                 return layout::refused(refusal::OUT_OF_RANGE);
             }

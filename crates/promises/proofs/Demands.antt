@@ -11,7 +11,7 @@ use Rattle.serial.proofs.Lift.{whole-bytes}
 use Rattle.bulletin.specs.Segments.{Segment}
 use Rattle.bulletin.specs.Bulletin.{readBulletin}
 use Rattle.making.specs.Make.{makeRule}
-use Rattle.making.proofs.Made.{by-then, ok-one}
+use Rattle.bulletin.proofs.Saying.{by-then, ok-one}
 use Rattle.making.proofs.Sounding.{made-sound}
 
 -- "Start from a newly made book": the book that make's rule gives for the bytes l lent to it, and any list of calls on it

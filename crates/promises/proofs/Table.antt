@@ -16,11 +16,12 @@ use Rattle.heading.specs.Heading.{isHeading, headingOf, isIdentifier}
 use Rattle.heading.specs.Storm.{isOffice, namesStorm, basinOf, classOf, stormOf}
 use Rattle.bulletin.specs.Search.{fromFirst, upToFirst}
 use Rattle.bulletin.specs.Mnd.{stormIn}
-use Rattle.bulletin.specs.Segments.{segmentsFrom, firstLines, segmentsOf}
+use Rattle.reading.specs.Placed.{placedAt}
+use Rattle.bulletin.specs.Segments.{pastPurge, segmentsFrom, firstLines, segmentsOf}
 use Rattle.bulletin.specs.Bulletin.{isLength, readBulletin}
 use Rattle.laws.proofs.Tables.{every}
 use Rattle.promises.specs.Examples.{holds, table}
 
 pub examples : T (every holds table)
-unfolding every sameList begins exactly pieces lineEnd bodyOf linesAt leap monthLength nextMonth afterJanuary daysIn startOf isTime minuteIn isMonth minuteOf monthFrom monthOf dateOf purgeIn purgeOf elementsAt elementsOfLines numbers time short said insert insertRun readFrom readBlock contentAt join runsOf spansOf elementOf elementsOf purgeElement blockElements wrapFrom inOrder rendered written ascends isSet writtenBlock blank isEnd opens badByte longLine lastEnds unended least textFault checkText isIssueMonth andThen isHeading headingOf isIdentifier isOffice namesStorm basinOf classOf stormOf fromFirst upToFirst stormIn segmentsFrom firstLines segmentsOf isLength readBulletin
+unfolding every sameList begins exactly pieces lineEnd bodyOf linesAt leap monthLength nextMonth afterJanuary daysIn startOf isTime minuteIn isMonth minuteOf monthFrom monthOf dateOf purgeIn purgeOf elementsAt elementsOfLines numbers time short said insert insertRun readFrom readBlock contentAt placedAt pastPurge join runsOf spansOf elementOf elementsOf purgeElement blockElements wrapFrom inOrder rendered written ascends isSet writtenBlock blank isEnd opens badByte longLine lastEnds unended least textFault checkText isIssueMonth andThen isHeading headingOf isIdentifier isOffice namesStorm basinOf classOf stormOf fromFirst upToFirst stormIn segmentsFrom firstLines segmentsOf isLength readBulletin
 examples = tt

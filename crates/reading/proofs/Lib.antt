@@ -2,3 +2,4 @@ pub mod Searches
 pub mod Sets
 pub mod Blocks
 pub mod Contents
+pub mod Placing

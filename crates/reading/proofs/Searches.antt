@@ -8,7 +8,8 @@ use lib.ListN.{length, getD, take}
 use lib.Seq.{getD-take, length-take-le}
 use lib.Dec.{ltb}
 use borrow.Author.Tests.{ltb-true, lt-ltb}
-use Rattle.laws.proofs.Tests.{impossible, by-order, and-left, and-right, same-test}
+use Rattle.laws.proofs.Tables.{every, every-at}
+use Rattle.laws.proofs.Tests.{impossible, by-order, same-test}
 use Rattle.codes.specs.Places.{Ascending, nil, cons}
 use Rattle.codes.specs.Serving.{First}
 use Rattle.reading.specs.Runs.{allBelow}
@@ -98,18 +99,15 @@ module _ (held : List ℕ) (n q i : ℕ) (v : Passed held n q i) where
 
 -- ---- all below
 pub below-each : (p : ℕ) (l : List ℕ) → allBelow p l ≡ true → (j : ℕ) → j < length l → getD l j 0 < p
-unfolding allBelow
-below-each p [] e j h = impossible (omega arith)
-below-each p (x ∷ xs) e zero h = ltb-true x p (and-left (ltb x p) (allBelow p xs) e)
-below-each p (x ∷ xs) e (suc j) h = below-each p xs (and-right (ltb x p) (allBelow p xs) e) j (omega arith)
+below-each p l e j h = ltb-true (getD l j 0) p (every-at (λ (x : ℕ). ltb x p) l 0 j e h)
 
 each-below : (p : ℕ) (l : List ℕ) → ((j : ℕ) → j < length l → getD l j 0 < p) → allBelow p l ≡ true
-unfolding allBelow
+unfolding every
 each-below p [] h = refl
 each-below p (x ∷ xs) h = rw (lt-ltb x p (h 0 (omega arith)), each-below p xs (λ j k. h (suc j) (omega arith)))
 
 pub none-below : (held : List ℕ) (n p : ℕ) → n ≡ 0 → true ≡ allBelow p (take n held)
-unfolding allBelow
+unfolding every
 none-below held n p h = rw h
 
 pub last-below : (held : List ℕ) (n p : ℕ) → n ≤ length held → Ascending 0 (take n held) → (n ≡ 0 → ⊥) → ltb (getD held (n - 1) 0) p ≡ allBelow p (take n held)

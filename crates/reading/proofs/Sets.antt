@@ -5,10 +5,10 @@ use native.Mathlib.Nat.{add-zero, sub-zero}
 use native.Mathlib.Omega.{arith}
 use mathlib.Core.Path.{_≡_, refl, sym, ap, ap₂, _∙_}
 use mathlib.Core.List.{List, _++_, append-assoc}
-use mathlib.Core.Bool.{true, false}
+use mathlib.Core.Bool.{Bool, true, false}
 use mathlib.Core.Option.{none, some}
 use lib.ListN.{length, getD, take, drop, set, length-set, length-append, length-drop}
-use lib.Seq.{paste, paste-zero, paste-suc, length-paste, length-take-le, take-append-le, take-take, take-all, take-at, drop-at}
+use lib.Seq.{paste, paste-zero, paste-suc, length-paste, length-take-le, take-append-le, take-take, take-all, take-at, drop-at, drop-drop}
 use borrow.Author.Tests.{le-leb, lt-leb}
 use Rattle.laws.proofs.Tests.{by-order, impossible, apart}
 use Rattle.laws.proofs.Lists.{drop-take}
@@ -17,8 +17,8 @@ use Rattle.codes.specs.Places.{placesEnd, upward}
 use Rattle.codes.specs.Serving.{First}
 use Rattle.codes.specs.Block.{insertRun}
 use Rattle.codes.proofs.Members.{run-split, below-take, from-drop, run-length, run-ascending}
-use Rattle.reading.specs.Held.{capped, listOf, heldBy, Good}
-use Rattle.reading.specs.Runs.{kept, allBelow, Grown}
+use Rattle.reading.specs.Held.{vacant, placesIn, Good}
+use Rattle.reading.specs.Runs.{capped, kept, heldBy, allBelow, Grown}
 use Rattle.reading.specs.declared.Places.{Places}
 use Rattle.reading.specs.declared.Put.the-variants.{Total, Over}
 use Rattle.reading.proofs.Searches.{below-each}
@@ -103,15 +103,21 @@ unfolding capped
 capped-many l h = rw (lt-leb (length l) 120 h)
 
 -- what is held says how many there are, and which
-module _ (t : Places) (l : List ℕ) (h : heldBy t ≡ capped l) where
-  pub held-many : t .over ≡ true → 120 < length l
+module _ (over : Bool) (t : Places) (l : List ℕ) (h : heldBy over t ≡ capped l) where
+  pub held-many : over ≡ true → 120 < length l
   held-many o = by-order 120 (length l) (λ k. k) (λ k. let f : none ≡ some l = rw o at h ∙ capped-few l k in apart cc)
 
-  pub held-few : t .over ≡ false → length l ≤ 120
-  held-few o = by-order 120 (length l) (λ k. let f : some (listOf t) ≡ none = rw o at h ∙ capped-many l k in apart cc) (λ k. k)
+  pub held-few : over ≡ false → length l ≤ 120
+  held-few o = by-order 120 (length l) (λ k. let f : some (placesIn t) ≡ none = rw o at h ∙ capped-many l k in apart cc) (λ k. k)
 
-  pub held-is : t .over ≡ false → listOf t ≡ l
-  held-is o = let f : some (listOf t) ≡ some l = rw o at h ∙ capped-few l (held-few o) in cc
+  pub held-is : over ≡ false → placesIn t ≡ l
+  held-is o = let f : some (placesIn t) ≡ some l = rw o at h ∙ capped-few l (held-few o) in cc
+
+-- behind more places too there are zeros
+rest-more : (held : List ℕ) (count total : ℕ) → count ≤ total → drop count held ≡ drop count vacant → drop total held ≡ drop total vacant
+rest-more held count total h e =
+    let n : count + (total - count) ≡ total = omega arith in
+    sym (drop-drop (total - count) count held ∙ rw n) ∙ ap (drop (total - count)) e ∙ drop-drop (total - count) count vacant ∙ rw n
 
 -- ---- a run put in at once
 module _ (held : List ℕ) (count p q n i j : ℕ) (g : Good (kept held count)) (pq : p ≤ q) (en : n ≡ q - p) (fi : First p (take count held) i) (fj : First q (take count held) j) where
@@ -139,9 +145,8 @@ module _ (held : List ℕ) (count p q n i j : ℕ) (g : Good (kept held count)) 
   pub insert-over : 120 < i + n + (count - j) → Grown held count p q held Over
   insert-over h =
       record {
-        good = record { long = g .long; few = g .few; rising = g .rising };
+        good = g;
         held = rw same-run (sym (capped-many (insertRun n p l) (omega (arith, run-long))));
-        same = λ e. refl;
       }
 
   -- after both moves the places stand in front
@@ -179,6 +184,14 @@ module _ (held : List ℕ) (count p q n i j : ℕ) (g : Good (kept held count)) 
         ∙ regroup (take i l) (upward p n) (drop j l) (drop (i + n + (count - j)) held)
         ∙ ap (λ (x : List ℕ). x ++ drop (i + n + (count - j)) held) (sym split)
 
+    total-more : count ≤ i + n + (count - j)
+    total-more = omega (arith, moves-up)
+
+    rest-in : drop (i + n + (count - j)) (paste moved i (upward p n) n) ≡ drop (i + n + (count - j)) vacant
+    rest-in =
+        ap (drop (i + n + (count - j))) whole ∙ drop-at (insertRun n p l) (drop (i + n + (count - j)) held) (i + n + (count - j)) run-long
+        ∙ rest-more held count (i + n + (count - j)) total-more (g .rest)
+
     run-in : take (i + n + (count - j)) (paste moved i (upward p n) n) ≡ insertRun n p l
     run-in = ap (take (i + n + (count - j))) whole ∙ take-at (insertRun n p l) (drop (i + n + (count - j)) held) (i + n + (count - j)) run-long
 
@@ -188,9 +201,8 @@ module _ (held : List ℕ) (count p q n i j : ℕ) (g : Good (kept held count)) 
         let lf : length filled ≡ length array = ap length ef ∙ length-paste array i (upward p n) n (omega (arith, g .long)) (omega (arith, upward-length p n)) in
         let is : take (i + n + (count - j)) filled ≡ insertRun n p l = rw (ef, ea) run-in in
         record {
-          good = record { long = lf ∙ la ∙ g .long; few = room; rising = rw is (run-ascending n p (omega arith) (omega arith) (g .rising)) };
+          good = record { long = lf ∙ la ∙ g .long; few = room; rising = rw is (run-ascending n p (omega arith) (omega arith) (g .rising)); rest = rw (ef, ea) rest-in };
           held = rw (is, same-run) (sym (capped-few (insertRun n p l) (omega (arith, run-long))));
-          same = λ x. apart cc;
         }
 
 -- ---- behind places that are all below p nothing has to move

@@ -1,62 +1,56 @@
--- What the code's types mean: places held by value, and the answers of reading a block.
+-- Serves the code: what its types mean, places held by value and the answers of reading a block. Each answer is one of these values and no other.
 use Prim.Native.Nat.{ℕ, _≤_}
 use mathlib.Core.Path.{_≡_}
-use mathlib.Core.List.{List}
+use mathlib.Core.List.{List, [], _++_}
 use mathlib.Core.Bool.{Bool, true, false, cond}
-use mathlib.Core.Option.{Option, none, some}
-use lib.ListN.{length, take}
+use lib.ListN.{length, take, drop, replicate}
 use lib.Dec.{leb}
-use Rattle.refusal.specs.Answer.{Answer, ok, paperRefusal}
+use Rattle.refusal.specs.Answer.{Answer, ok, no, paperRefusal}
 use Rattle.calendar.specs.declared.Stamp.{Stamp}
 use Rattle.codes.specs.Places.{Ascending, capacity}
 use Rattle.codes.specs.Block as codes
+use Rattle.reading.specs.Placed.{Placed}
 use Rattle.reading.specs.declared.Places.{Places}
-use Rattle.reading.specs.declared.Found.{Found}
 use Rattle.reading.specs.declared.Found.the-variants.{Whole, Wrong}
 use Rattle.reading.specs.declared.Block.{Block}
 use Rattle.reading.specs.declared.Purge.{Purge}
 use Rattle.reading.specs.declared.Purge.the-variants.{At, Refused}
 use Rattle.reading.specs.declared.Content.{Content}
 
--- at most 120 places, or none: there are more
-unfoldable pub capped : List ℕ → Option (List ℕ)
-capped l = cond (leb (length l) capacity) (some l) none
+-- an array that holds no place
+unfoldable pub vacant : List ℕ
+vacant = replicate capacity 0
 
-abbrev pub listOf : Places → List ℕ
-listOf t = take (t .count) (t .held)
+-- ---- places by value: these, and zeros behind them
+abbrev pub placesFor : List ℕ → Places
+placesFor ps = record { held = ps ++ drop (length ps) vacant; count = length ps }
 
-abbrev pub marked : Bool → List ℕ → Option (List ℕ)
-marked true l = none
-marked false l = some l
+abbrev pub placesIn : Places → List ℕ
+placesIn t = take (t .count) (t .held)
 
-abbrev pub heldBy : Places → Option (List ℕ)
-heldBy t = marked (t .over) (listOf t)
-
--- what the code keeps true of places by value
+-- what the code keeps true of them
 pub record Good (t : Places) : Type 0 where
   pub long : length (t .held) ≡ capacity
   pub few : t .count ≤ capacity
-  pub rising : Ascending 0 (listOf t)
+  pub rising : Ascending 0 (placesIn t)
+  pub rest : drop (t .count) (t .held) ≡ drop (t .count) vacant
 
--- ---- a block: its places if they are few enough, DDHHMM and the place of the purge element; or the place of the first wrong element
-pub data Short : Type 0 where
-  whole : Option (List ℕ) → Stamp → ℕ → Short
-  wrong : ℕ → Short
+-- ---- a block: DDHHMM, the place of the purge element and the places, if they are few enough; or the place of the first wrong element
+abbrev pub wholeFor : Stamp → ℕ → Bool → List ℕ → Block
+wholeFor s at over ps = record { found = Whole s at; over = over; places = placesFor ps }
 
-abbrev pub shortOf : codes.Read → Short
-shortOf (codes.block ps s at) = whole (capped ps) s at
-shortOf (codes.wrongAt place) = wrong place
+abbrev pub blockFor : codes.Read → Block
+blockFor (codes.block ps s at) = cond (leb (length ps) capacity) (wholeFor s at false ps) (wholeFor s at true [])
+blockFor (codes.wrongAt place) = record { found = Wrong place; over = false; places = placesFor [] }
 
-abbrev pub foundOf : Found → Places → Short
-foundOf (Whole s at) t = whole (heldBy t) s at
-foundOf (Wrong place) t = wrong place
+-- ---- a segment's content; on a refusal no places
+abbrev pub contentFor : Answer Placed → Content
+contentFor (ok p) = record { purge = At (p .content .purge) (p .at); places = placesFor (p .content .places) }
+contentFor (no number place) = record { purge = Refused (record { number = number; place = place }); places = placesFor [] }
 
-abbrev pub paperBlock : Block → Short
-paperBlock b = foundOf (b .found) (b .places)
-
--- ---- a segment's content
+-- what it says, without the purge element's place
 abbrev pub contentOf : Purge → Places → Answer codes.Content
-contentOf (At t) p = ok (record { purge = t; places = listOf p })
+contentOf (At t at) p = ok (record { purge = t; places = placesIn p })
 contentOf (Refused r) p = paperRefusal r
 
 abbrev pub paperContent : Content → Answer codes.Content

@@ -1,32 +1,45 @@
--- What the functions of this crate say to each other while a block is read: of a lent array the first `count` numbers are the places held. Nothing outside the crate builds on it.
+-- Serves the code: what the functions of this crate say to each other while a block is read. Of a lent array the first `count` numbers are the places held. Nothing outside the crate builds on it.
 use Prim.Native.Nat.{ℕ, _-_}
 use mathlib.Core.Path.{_≡_}
-use mathlib.Core.List.{List, [], _∷_}
-use mathlib.Core.Bool.{Bool, true, false, _&&_}
-use lib.ListN.{take}
-use lib.Dec.{ltb}
+use mathlib.Core.List.{List}
+use mathlib.Core.Bool.{Bool, true, false, cond}
+use mathlib.Core.Option.{Option, none, some}
+use lib.ListN.{length, take}
+use lib.Dec.{ltb, leb}
+use Rattle.laws.proofs.Tables.{every}
+use Rattle.codes.specs.Places.{capacity}
 use Rattle.codes.specs.Block.{insertRun}
-use Rattle.reading.specs.Held.{capped, heldBy, Good}
+use Rattle.reading.specs.Held.{placesIn, Good}
 use Rattle.reading.specs.declared.Places.{Places}
 use Rattle.reading.specs.declared.Put.{Put}
 use Rattle.reading.specs.declared.Put.the-variants.{Total, Over}
 
--- what an array and a count hold
-abbrev pub kept : List ℕ → ℕ → Places
-kept held count = record { held = held; count = count; over = false }
+-- at most 120 places, or none: there are more
+unfoldable pub capped : List ℕ → Option (List ℕ)
+capped l = cond (leb (length l) capacity) (some l) none
 
--- what they hold after a run was put in: a new count, or the old one and the mark that there are more
+-- what an array and a count hold, or the mark that there are more
+abbrev pub kept : List ℕ → ℕ → Places
+kept held count = record { held = held; count = count }
+
+abbrev pub heldBy : Bool → Places → Option (List ℕ)
+heldBy true t = none
+heldBy false t = some (placesIn t)
+
+-- what they hold after a run was put in: a new count, or the old one and the mark
 abbrev pub after : List ℕ → ℕ → Put → Places
 after held count (Total n) = kept held n
-after held count Over = record { held = held; count = count; over = true }
+after held count Over = kept held count
+
+abbrev pub isOver : Put → Bool
+isOver (Total n) = false
+isOver Over = true
 
 -- the places from p up to before q were put into the array `before`, which held `count`; if they would be too many it is as it was
 pub record Grown (before : List ℕ) (count p q : ℕ) (array : List ℕ) (put : Put) : Type 0 where
   pub good : Good (after array count put)
-  pub held : heldBy (after array count put) ≡ capped (insertRun (q - p) p (take count before))
-  pub same : put ≡ Over → array ≡ before
+  pub held : heldBy (isOver put) (after array count put) ≡ capped (insertRun (q - p) p (take count before))
 
 -- every place of the list is less than p
-unfoldable pub allBelow : ℕ → List ℕ → Bool
-allBelow p [] = true
-allBelow p (x ∷ xs) = ltb x p && allBelow p xs
+abbrev pub allBelow : ℕ → List ℕ → Bool
+allBelow p l = every (λ (x : ℕ). ltb x p) l

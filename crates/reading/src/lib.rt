@@ -1,13 +1,15 @@
 // Place code blocks, read whole: document 01, "Segments and place code blocks".
 ghost use mathlib.Core.Path.{_≡_};
 ghost use mathlib.Core.Bool.{true};
+ghost use mathlib.Core.List.{[]};
 ghost use Prim.Native.Nat.{ℕ, _+_, _≤_, _<_};
 ghost use lib.ListN.{length, getD, take, drop};
 ghost use lib.Seq.{paste};
 ghost use Rattle.codes.specs.Places.{placesEnd, placeOf, Ascending, upward};
 ghost use Rattle.codes.specs.Serving.{First, Low};
-ghost use Rattle.codes.specs.Block.{readBlock, contentAt, lastOf};
-ghost use Rattle.reading.specs.Held.{Good, shortOf, paperBlock, paperContent};
+ghost use Rattle.codes.specs.Block.{readBlock};
+ghost use Rattle.reading.specs.Placed.{placedAt};
+ghost use Rattle.reading.specs.Held.{Good, placesFor, blockFor, contentFor};
 ghost use Rattle.reading.specs.Runs.{kept, allBelow, Grown};
 use calendar::Moment;
 use calendar::Stamp;
@@ -16,11 +18,10 @@ use codes::Last;
 use codes::Step;
 use refusal::Refusal;
 
-// Places, strictly ascending. At most 120 are held; more are only marked.
+// Places, strictly ascending: the first `count` numbers. The others are zeros.
 pub struct Places {
     pub held: [u32; 120],
     pub count: usize,
-    pub over: bool,
 }
 
 // A whole block's DDHHMM and the place of its element, or the place of the first wrong element.
@@ -29,21 +30,23 @@ pub enum Found {
     Wrong(usize),
 }
 
+// A block, with its places, or that they are over 120. Of those, and of a wrong block, none are held.
 pub struct Block {
     pub found: Found,
+    pub over: bool,
     pub places: Places,
 }
 
+// A purge minute and the place of the purge element.
 pub enum Purge {
-    At(usize),
+    At(usize, usize),
     Refused(Refusal),
 }
 
-// A segment's purge minute, its places, and the place of the element that the reading of its block came to.
+// A segment's purge and its places; on a refusal no places.
 pub struct Content {
     pub purge: Purge,
     pub places: Places,
-    pub last: usize,
 }
 
 // A run put in: how many places are held now, or that they would be more than 120.
@@ -192,9 +195,29 @@ fn cover(held: &mut [u32], count: usize, prefix: u32, first: u32, last: u32) -> 
     put_run(held, count, prefix * 1000 + first, prefix * 1000 + last + 1)
 }
 
+// No places.
+fn none() -> Places
+    ensures { λ r. ⌜ r ≡ placesFor [] ⌝ }
+{
+    let held: [u32; 120] = [0; 120];
+    Places { held, count: 0 }
+}
+
+// A block of which no places are held.
+fn bare(found: Found, over: bool) -> Block
+    ensures { λ r. ⌜ r ≡ record { found = found; over = over; places = placesFor [] } ⌝ }
+{
+    let places = none();
+    Block {
+        found,
+        over,
+        places,
+    }
+}
+
 // The block that starts at a place of the text.
 pub fn read_block(text: &[u8], at: usize) -> Block
-    ensures is { λ r. ⌜ paperBlock r ≡ shortOf (readBlock (now (text .entry)) at) ⌝ }
+    ensures is { λ r. ⌜ r ≡ blockFor (readBlock (now (text .entry)) at) ⌝ }
     ensures good { λ r. ⌜ Good (r .places) ⌝ }
 {
     let mut cursor = Cursor {
@@ -223,52 +246,48 @@ pub fn read_block(text: &[u8], at: usize) -> Block
             }
             Step::Purge(stamp, place) => {
                 let found = Found::Whole(stamp, place);
-                let places = Places { held, count, over };
-                return Block { found, places };
+                if over {
+                    return bare(found, true);
+                }
+                let places = Places { held, count };
+                return Block {
+                    found,
+                    over: false,
+                    places,
+                };
             }
-            Step::Wrong(place) => {
-                let found = Found::Wrong(place);
-                let places = Places { held, count, over };
-                return Block { found, places };
-            }
+            Step::Wrong(place) => return bare(Found::Wrong(place), false),
         }
     }
 }
 
 // The content of the segment that starts at a place of the text, under an issue.
 pub fn read_content(text: &[u8], start: usize, issue: usize) -> Content
-    ensures is { λ r. ⌜ paperContent r ≡ contentAt (now (text .entry)) issue start ⌝ }
+    ensures is { λ r. ⌜ r ≡ contentFor (placedAt (now (text .entry)) issue start) ⌝ }
     ensures good { λ r. ⌜ Good (r .places) ⌝ }
-    ensures last { λ r. ⌜ r .last ≡ lastOf (readBlock (now (text .entry)) start) ⌝ }
 {
     let block = read_block(text, start);
-    let places = block.places;
     let found = block.found;
     match found {
-        Found::Wrong(place) => refused(refusal::WRONG_BLOCK, place, places, place),
+        Found::Wrong(place) => refused(refusal::WRONG_BLOCK, place),
         Found::Whole(stamp, place) => {
             let Moment::At(minute) = calendar::purge_of(issue, stamp) else {
-                return refused(refusal::WRONG_TIME, place, places, place);
+                return refused(refusal::WRONG_TIME, place);
             };
-            if places.over {
-                return refused(refusal::TOO_MANY_PLACES, start, places, place);
+            if block.over {
+                return refused(refusal::TOO_MANY_PLACES, start);
             }
-            Content {
-                purge: Purge::At(minute),
-                places,
-                last: place,
-            }
+            let places = block.places;
+            let purge = Purge::At(minute, place);
+            Content { purge, places }
         }
     }
 }
 
-fn refused(number: usize, place: usize, places: Places, last: usize) -> Content
-    ensures { λ r. ⌜ r ≡ record { purge = Purge.Refused (record { number = number; place = place }); places = places; last = last } ⌝ }
+fn refused(number: usize, place: usize) -> Content
+    ensures { λ r. ⌜ r ≡ record { purge = Purge.Refused (record { number = number; place = place }); places = placesFor [] } ⌝ }
 {
     let purge = Purge::Refused(Refusal { number, place });
-    Content {
-        purge,
-        places,
-        last,
-    }
+    let places = none();
+    Content { purge, places }
 }

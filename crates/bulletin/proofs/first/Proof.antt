@@ -1,7 +1,7 @@
 use borrow.Author.Needs.{needs}
 use Prim.Native.Nat.{_-_}
 use lib.ListN.{length}
-use Rattle.bulletin.specs.Search.{testOf}
+use Rattle.bulletin.specs.Searching.{testOf}
 use Rattle.bulletin.proofs.Seeking.{Seeks, seeks-start, seeks-none, seeks-here, seeks-in, seeks-on, seeks-less}
 use Rattle.bulletin.proofs.first.Statement.{statement}
 use Rattle.bulletin.proofs.first.Tie as tie

@@ -1,6 +1,6 @@
 use borrow.Author.Needs.{needs}
 use Prim.Native.Nat.{_-_}
-use Rattle.bulletin.proofs.Stepping.{Listing, listing-start, listing-room, listing-less, listing-on, listing-end, listing-refused, listing-size, kept-end, kept-no}
+use Rattle.bulletin.proofs.Stepping.{Listing, listing-start, listing-room, listing-less, listing-on, listing-end, listing-refused, listing-segments, listing-sized, listing-size, kept-end, kept-no}
 use Rattle.bulletin.proofs.read_segments.Statement.{statement}
 use Rattle.bulletin.proofs.read_segments.Tie as tie
 
@@ -9,6 +9,9 @@ Inv-loop text from issue kept₀ held₀ count₀ at₀ kept held count at = Lis
 
 abbrev μ-loop : tie.MeasureT-loop
 μ-loop text from issue kept₀ held₀ count₀ at₀ kept held count at = 8 - count
+
+unread-requires : tie.Need-unread-requires Inv-loop μ-loop
+unread-requires c κs = search needs
 
 loop-holds : tie.Need-loop-holds Inv-loop μ-loop
 loop-holds c = search (listing-start, needs)
@@ -47,7 +50,7 @@ same-length : tie.Need-same-length Inv-loop μ-loop
 same-length c = search (listing-size, needs)
 
 returns : tie.Need-returns Inv-loop μ-loop
-returns c = (search (listing-end, needs), (search needs, search (kept-end, needs)))
+returns c = (search (listing-end, needs), (search (listing-segments, needs), (search (listing-sized, needs), search (kept-end, needs))))
 
 enum-known-next-2 : tie.Need-enum-known-next-2 Inv-loop μ-loop
 enum-known-next-2 c = search needs
@@ -56,7 +59,7 @@ same-length-2 : tie.Need-same-length-2 Inv-loop μ-loop
 same-length-2 c = search (listing-size, needs)
 
 returns-2 : tie.Need-returns-2 Inv-loop μ-loop
-returns-2 c = (search (listing-refused, needs), (search needs, search (kept-no, needs)))
+returns-2 c = (search (listing-refused, needs), (search (listing-segments, needs), (search (listing-sized, needs), search (kept-no, needs))))
 
 pub read-segments-spec : {M : Type 1} → statement M
 read-segments-spec =
@@ -64,6 +67,7 @@ read-segments-spec =
     (tie.spec
     Inv-loop
     μ-loop
+    unread-requires
     loop-holds
     sub-next-segment
     mul-next-segment
