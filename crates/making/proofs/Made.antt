@@ -23,7 +23,8 @@ use Rattle.calendar.specs.Calendar.{isIssueMonth, minuteOf}
 use Rattle.calendar.specs.declared.Stamp.{Stamp}
 use Rattle.heading.specs.Heading.{Heading}
 use Rattle.heading.specs.Storm.{StormName}
-use Rattle.making.proofs.Openings.{From, from-all, from-step, from-later, from-first, first-passes, Opens}
+use Rattle.roundtrip.specs.Round.{Opens}
+use Rattle.making.proofs.Openings.{From, from-all, from-step, from-later, from-first, first-passes}
 
 -- ---- the segments
 module _ (text : List ℕ) (issue : ℕ) where

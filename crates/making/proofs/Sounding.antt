@@ -1,33 +1,27 @@
 -- The book that is made of a bulletin is sound. Assumes nothing.
 use Prim.Native.Nat.{ℕ, suc, _-_, _≤_, _<_}
 use native.Mathlib.Omega.{arith}
-use mathlib.Core.Path.{_≡_, refl, subst}
+use mathlib.Core.Path.{_≡_, refl}
 use mathlib.Core.Bool.{true}
 use mathlib.Core.List.{List, map}
 use mathlib.Core.Option.{Option, none, some}
 use lib.ListN.{length, length-map}
-use lib.Dec.{leb}
 use borrow.Author.Tests.{lt-ltb}
-use Rattle.codes.proofs.Sets.{set-is}
 use Rattle.laws.proofs.Tests.{by, apart}
 use Rattle.laws.proofs.Lists.{All, all-nil, all-cons, all-map}
-use Rattle.refusal.specs.Numbers.{Reason, wrongTime, tooManyPlaces}
+use Rattle.refusal.specs.Numbers.{Reason, wrongTime}
 use Rattle.refusal.specs.Answer.{ok, refused, must}
 use Rattle.calendar.specs.Calendar.{yearOf, monthOfYear, issueMonths, isIssueMonth, startOf, minuteOf, stampAfter, monthOf, dateIn, dateOf}
 use Rattle.calendar.specs.declared.Date.{Date}
-use Rattle.calendar.specs.declared.Stamp.{Stamp}
-use Rattle.calendar.specs.Purge.{purgeOf}
-use Rattle.calendar.proofs.Laws.{start-mono, month-some, minute-date, issue-true, purge-is}
-use Rattle.codes.specs.Places.{capacity, isSet}
-use Rattle.codes.specs.Block.{Content, Read, block, wrongAt, readBlock, dated, contentIn, contentAt}
-use Rattle.roundtrip.proofs.RoundTrip.{Again, read-again}
+use Rattle.calendar.proofs.Laws.{start-mono, month-some, minute-date, issue-true}
+use Rattle.roundtrip.specs.Round.{ReadsBack}
+use Rattle.roundtrip.proofs.WriteRead.{read-writable, read-again}
 use Rattle.blocks.specs.Content.{isContent}
 use Rattle.keeping.proofs.Keeping.{new-sound}
 use Rattle.layout.specs.Sound.{isIssue, Fine, Sound}
 use Rattle.bulletin.specs.Segments.{Segment}
 use Rattle.bulletin.specs.Bulletin.{Bulletin, issued, readBulletin}
 use Rattle.making.specs.Make.{bookFrom}
-use Rattle.making.proofs.Openings.{Opens, opened-long}
 use Rattle.making.proofs.Made.{Stands, read-back, segmented}
 
 -- ---- the issue
@@ -74,34 +68,16 @@ made-count text year month b e =
     let s = segmented text year month b e in
     record { one = s .one; eight = s .standing .few }
 
--- the content at a place where a block opens has a place
-content-long : (text : List ℕ) (issue at : ℕ) (c : Content) → Opens text at → contentAt text issue at ≡ ok c → 1 ≤ length (c .places)
-unfolding contentAt
-content-long text issue at c o e = read (readBlock text at) refl e
-  where
-    date : (ps : List ℕ) (s : Stamp) (z : ℕ) (m : Option ℕ) → 1 ≤ length ps → dated at z ps m ≡ ok c → 1 ≤ length (c .places)
-    date ps s z none h f = apart cc
-    date ps s z (some t) h f =
-        by (leb (length ps) capacity)
-        (λ k.
-        let g : ok (record { purge = t; places = ps }) ≡ ok c = rw k at f in
-        let same : record { purge = t; places = ps } ≡ c = cc in
-        subst (λ (x : Content). 1 ≤ length (x .places)) same h)
-        (λ k. let g : refused tooManyPlaces at ≡ ok c = rw k at f in apart cc)
-
-    read : (r : Read) → readBlock text at ≡ r → contentIn issue at r ≡ ok c → 1 ≤ length (c .places)
-    read (wrongAt place) q f = apart cc
-    read (block ps s z) q f = date ps s z (purgeOf issue s) (opened-long text at ps s z o q) f
-
--- and it is sound
+-- each content is sound,
 stands-fine : (text : List ℕ) (issue : ℕ) (g : Segment) → Stands text issue g → isContent issue (g .content) ≡ true
 unfolding isContent
-stands-fine text issue g s =
-    let c = g .content in
-    let a : Again issue c = read-again text issue (g .start) c (s .says) in
-    let one : 1 ≤ length (c .places) = content-long text issue (g .start) c (s .opening) (s .says) in
-    let set : isSet (c .places) ≡ true = set-is (c .places) (record { one = one; few = a .few; up = a .ascending }) in
-    rw set (purge-is issue (a .stamp) (c .purge) (a .gives))
+stands-fine text issue g s = let w = read-writable text issue (g .start) (g .content) (s .opening) (s .says) in rw (w .set) (w .purge)
+
+-- and its written block reads back to it
+pub made-again : (text : List ℕ) (year month : ℕ) (b : Bulletin) → readBulletin text year month ≡ ok b
+    → All (λ (g : Segment). ReadsBack (b .issue) (g .content)) (b .segments)
+made-again text year month b e =
+    all-map (λ g s. read-again text (b .issue) (g .start) (g .content) (s .opening) (s .says)) (segmented text year month b e .standing .each)
 
 -- every content of a bulletin that is read is sound under its issue
 pub made-fine : (text : List ℕ) (year month : ℕ) (b : Bulletin) → readBulletin text year month ≡ ok b

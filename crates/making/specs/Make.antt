@@ -9,7 +9,7 @@ use Rattle.refusal.specs.Numbers.{wrongLength, notSound, noSuchSegment}
 use Rattle.refusal.specs.Answer.{Answer, ok, no, refused, must, andThen, paperVerdict}
 use Rattle.refusal.specs.declared.Verdict.{Verdict}
 use Rattle.codes.specs.Block.{Content}
-use Rattle.writing.specs.Write.{writeRule, lengthOf, outputOf, paperWritten}
+use Rattle.writing.specs.Write.{writtenBlock, fitting, lengthOf, outputOf, paperWritten}
 use Rattle.writing.specs.declared.Written.{Written}
 use Rattle.bulletin.specs.Segments.{Segment}
 use Rattle.bulletin.specs.Bulletin.{Bulletin, readBulletin}
@@ -41,16 +41,29 @@ pub record Makes (before after text : List ℕ) (year month : ℕ) (r : Verdict)
   pub left : after ≡ madeBytes (makeRule before text year month) before
 
 -- ---- "Write: a segment's block, from the book, into a lent output": 1, 12, "15, then 23 after 12"
+-- "no such segment"
 abbrev pub orNoSegment : {A : Type 0} → Option A → Answer A
 orNoSegment none = refused noSuchSegment 0
 orNoSegment (some x) = ok x
+
+-- a segment's block: what `writing` gives for its places and purge. In a sound book it gives one for every segment (`segment-blocked`).
+abbrev pub blockGiven : Answer (List ℕ) → Option (List ℕ)
+blockGiven (ok block) = some block
+blockGiven (no number place) = none
+
+abbrev pub contentForm : Option Content → Option (List ℕ)
+contentForm none = none
+contentForm (some c) = blockGiven (writtenBlock (c .places) (c .purge))
+
+unfoldable pub segmentBlock : Book → ℕ → Option (List ℕ)
+segmentBlock b s = contentForm (at (b .segments) s)
 
 unfoldable pub writeOn : List ℕ → ℕ → ℕ → Answer (List ℕ)
 writeOn l s room =
     andThen (must (eqb (length l) bookLength) wrongLength 0) λ _.
     andThen (must (isSound l) notSound 0) λ _.
-    andThen (orNoSegment (at (bookOf l .segments) s)) λ c.
-    writeRule room (c .places) (c .purge)
+    andThen (orNoSegment (segmentBlock (bookOf l) s)) λ block.
+    fitting room block
 
 -- the promise: the answer, and the output afterwards
 pub record WritesOn (l before after : List ℕ) (s : ℕ) (r : Written) : Type 0 where

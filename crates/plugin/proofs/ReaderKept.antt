@@ -40,7 +40,8 @@ use Rattle.bulletin.specs.Seen.{seen}
 use Rattle.bulletin.specs.Report.{Report, reported}
 use Rattle.bulletin.specs.View.{numbered, viewOf, partOf}
 use Rattle.bulletin.specs.declared.Segment.{Segment}
-use Rattle.making.specs.Make.{bookFrom, makeRule, madeAnswer, orNoSegment, writeOn}
+use Rattle.making.specs.Make.{bookFrom, makeRule, madeAnswer, orNoSegment, segmentBlock, writeOn}
+use Rattle.making.proofs.Writing.{segment-most}
 use Rattle.making.proofs.Sounding.{made-issue, made-count, made-fine}
 use Rattle.packing.specs.Packing.{pack, unpack, answered, packed, valueBits, nothing, noValue, plain, viewed, viewBits, viewBack, bbbBits, bbbBack, stormBits, stormBack}
 use Rattle.plugin.specs.Rules.{issueIn, countIn, bbbIn, identifierIn, stormBitsIn, viewBitsOf, blockEndOf, purgeMinuteOf, countOf, contentsOf, placeAnswer, placeIn}
@@ -283,16 +284,19 @@ module _ (room : ℕ) where
   pub block-back : (ps : List ℕ) (minute : ℕ) → unpack plain (pack plain (lengthOf (writeRule room ps minute))) ≡ lengthOf (writeRule room ps minute)
   block-back ps minute = back plain plain (lengthOf (writeRule room ps minute)) (written-kept (writeRule room ps minute) (rule-low ps minute))
 
-  segment-low : (o : Option codes.Content) → Low textMost Any (orNoSegment o)
-  segment-low none = low-refused textMost Any noSuchSegment 0 (omega arith)
-  segment-low (some c) = low-ok c tt
+  segment-low : (b : Book) (s : ℕ) → Low textMost Short (orNoSegment (segmentBlock b s))
+  segment-low b s = go (segmentBlock b s) refl
+    where
+      go : (o : Option (List ℕ)) → segmentBlock b s ≡ o → Low textMost Short (orNoSegment o)
+      go none q = low-refused textMost Short noSuchSegment 0 (omega arith)
+      go (some block) q = low-ok block (segment-most b s block q)
 
   write-low : (l : List ℕ) (s : ℕ) → Low textMost Short (writeOn l s room)
   unfolding writeOn
   write-low l s =
       low-then _ (λ _ _.
       low-then _ (λ _ _.
-      low-then _ (λ c _. rule-low (c .places) (c .purge)) (segment-low (at (bookOf l .segments) s)))
+      low-then (fitting room) (λ block k. fitting-low room block k) (segment-low (bookOf l) s))
       (low-must textMost (isSound l) notSound))
       (low-must textMost (eqb (length l) bookLength) wrongLength)
 

@@ -6,5 +6,7 @@ pub mod Covered
 pub mod Round
 pub mod Opens
 pub mod Spelled
+pub mod Opened
+pub mod Prefixes
 pub mod RoundTrip
 pub mod WriteRead

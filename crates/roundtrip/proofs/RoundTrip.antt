@@ -1,4 +1,4 @@
--- The laws of reading and writing a block: the round trip, what is addressed, how the written form stands in a text. Assumes nothing.
+-- The laws of reading and writing a block: the round trip of a stamp, what is addressed, what is accepted, how the written form stands in a text. Assumes nothing.
 use Prim.Native.Nat.{ℕ, _≤_}
 use mathlib.Core.Path.{_≡_, refl, sym, ap, _∙_, subst}
 use mathlib.Core.Bool.{true}
@@ -22,13 +22,12 @@ use Rattle.codes.specs.Places.{Ascending, nil, capacity}
 use Rattle.codes.specs.Elements.{elementsFrom}
 use Rattle.codes.specs.Block.{Read, block, wrongAt, readAt, readBlock, Covered, Content, dated, contentIn, contentAt}
 use Rattle.codes.specs.Written.{runsOf, spansOf, blockElements, written}
+use Rattle.roundtrip.specs.Round.{Addressed}
 use Rattle.roundtrip.proofs.Runs.{placesOf, spans-places, spans-fine, words-spans}
 use Rattle.roundtrip.proofs.Fit.{short-spans, rendered-fit}
 use Rattle.roundtrip.proofs.Covered.{Told, told, covered-in, in-covered, told-ascending}
 use Rattle.roundtrip.proofs.Opens.{Opening, spans-open}
 use Rattle.roundtrip.proofs.Round.{read-starts, written-starts, written-reads}
-
--- Place numbers: the bytes of a place spell its number, and six bytes that a place is read from are the bytes of its number.
 
 -- ---- the round trip
 -- What is written of strictly ascending places and of a DDHHMM in its ranges is read back as just these, wherever it stands and whatever follows it; z is the place of its purge element.
@@ -47,12 +46,6 @@ content-round-trip front ps rest issue t s a few e =
     ∙ rw (e, le-leb (length ps) capacity few)
 
 -- ---- "A place is addressed exactly if some element covers it"
--- The places of a block that is read are strictly ascending; each of them is covered by an element before the purge, and each place that such an element covers is among them.
-pub record Addressed (ps : List ℕ) (at : ℕ) (text : List ℕ) : Type 0 where
-  pub ascending : Ascending 0 ps
-  pub only : (q : ℕ) → List·Memᴰ q ps → Covered q none (elementsFrom at text)
-  pub every : (q : ℕ) → Covered q none (elementsFrom at text) → List·Memᴰ q ps
-
 pub covered : (stop at : ℕ) (text ps : List ℕ) (s : Stamp) (z : ℕ) → readAt stop at text ≡ block ps s z → Addressed ps at text
 covered stop at text ps s z e =
     let t : Told s ps none [] (elementsFrom at text) = told stop z none [] (elementsFrom at text) e in
@@ -62,40 +55,33 @@ covered stop at text ps s z e =
       every = λ q c. covered-in q t c;
     }
 
--- ---- a segment that is read can be written, and is read back from there
-pub record Again (issue : ℕ) (c : Content) : Type 0 where
+-- ---- the content of a segment that is accepted
+-- It was read from a block, is strictly ascending and of at most 120 places, and its purge minute is what the block's DDHHMM gives.
+pub record Accepted (text : List ℕ) (issue start : ℕ) (c : Content) : Type 0 where
+  pub stamp : Stamp
+  pub purge-at : ℕ
+  pub read : readBlock text start ≡ block (c .places) stamp purge-at
   pub ascending : Ascending 0 (c .places)
   pub few : length (c .places) ≤ capacity
-  pub stamp : Stamp
-  pub time : isTime stamp ≡ true
   pub gives : purgeOf issue stamp ≡ some (c .purge)
-  pub again : (front rest : List ℕ) → contentAt (front ++ (written (c .places) stamp ++ rest)) issue (length front) ≡ ok c
 
--- The content of any segment that is accepted is strictly ascending and of at most 120 places, its purge minute has a DDHHMM that gives it, and what is written of both reads back to the same content.
-pub read-again : (text : List ℕ) (issue start : ℕ) (c : Content) → contentAt text issue start ≡ ok c → Again issue c
+pub accepted : (text : List ℕ) (issue start : ℕ) (c : Content) → contentAt text issue start ≡ ok c → Accepted text issue start c
 unfolding contentAt readBlock
-read-again text issue start c e = read (readBlock text start) refl e
+accepted text issue start c e = go (readBlock text start) refl e
   where
-    date : (ps : List ℕ) (s : Stamp) (z : ℕ) (o : Option ℕ) → Ascending 0 ps → purgeOf issue s ≡ o → dated start z ps o ≡ ok c → Again issue c
-    date ps s z none a g e = apart cc
-    date ps s z (some t) a g e =
+    date : (ps : List ℕ) (s : Stamp) (z : ℕ) (o : Option ℕ) → readBlock text start ≡ block ps s z → Ascending 0 ps → purgeOf issue s ≡ o → dated start z ps o ≡ ok c
+        → Accepted text issue start c
+    date ps s z none q a g e = apart cc
+    date ps s z (some t) q a g e =
         by (leb (length ps) capacity)
-        (λ k. let few : length ps ≤ capacity = leb-true (length ps) capacity k in
-        let f : ok (record { purge = t; places = ps }) ≡ ok c = rw k at e in
+        (λ k. let f : ok (record { purge = t; places = ps }) ≡ ok c = rw k at e in
         let same : record { purge = t; places = ps } ≡ c = cc in
-        subst (Again issue) same (record {
-          ascending = a;
-          few = few;
-          stamp = s;
-          time = purge-time issue s t g;
-          gives = g;
-          again = λ front rest. content-round-trip front ps rest issue t s a few g;
-        }))
+        subst (Accepted text issue start) same (record { stamp = s; purge-at = z; read = q; ascending = a; few = leb-true (length ps) capacity k; gives = g }))
         λ k. let f : refused tooManyPlaces start ≡ ok c = rw k at e in apart cc
 
-    read : (r : Read) → readBlock text start ≡ r → contentIn issue start r ≡ ok c → Again issue c
-    read (wrongAt place) q e = apart cc
-    read (block ps s z) q e = date ps s z (purgeOf issue s) (covered (length text) start (drop start text) ps s z q .ascending) refl e
+    go : (r : Read) → readBlock text start ≡ r → contentIn issue start r ≡ ok c → Accepted text issue start c
+    go (wrongAt place) q e = apart cc
+    go (block ps s z) q e = date ps s z (purgeOf issue s) q (covered (length text) start (drop start text) ps s z q .ascending) refl e
 
 -- ---- the written block in a product
 -- What is written of one place or more opens a block, and so does its first line.

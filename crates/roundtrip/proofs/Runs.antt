@@ -129,7 +129,7 @@ rest-above (suc n) p (cons g h a) =
     let e : suc p + n ≡ p + suc n = omega arith in
     rw (← e) (rest-above n (suc p) a)
 
-run-above : (n : ℕ) {b : ℕ} (p : ℕ) {qs : List ℕ} → Ascending b (upward p (suc n) ++ qs) → (b ≤ p) × Ascending (p + suc n) qs
+pub run-above : (n : ℕ) {b : ℕ} (p : ℕ) {qs : List ℕ} → Ascending b (upward p (suc n) ++ qs) → (b ≤ p) × Ascending (p + suc n) qs
 unfolding upward
 run-above n p (cons g h a) =
     let e : suc p + n ≡ p + suc n = omega arith in

@@ -17,22 +17,23 @@ use Rattle.calendar.specs.declared.Stamp.{Stamp}
 use Rattle.codes.specs.Places.{prefixOf, threeOf, twoBytes, threeBytes, prefixBytes, prefixes, placesEnd}
 use Rattle.codes.specs.Elements.{covers, purge, numbers, time, short, said}
 use Rattle.codes.specs.Written.{newPrefix, upTo, Run, elementOf, purgeElement, writtenMost}
+use Rattle.writing.proofs.Bound.{element-brief, purge-brief}
 use Rattle.roundtrip.proofs.Split.{Word, ends, byte}
 
 -- ---- digits and letters
 digit-of : (x : ℕ) → x < 10 → digit (48 + x) ≡ true
 digit-of x h = rw (le-leb 48 (48 + x) (omega arith), le-leb (48 + x) 57 (omega arith))
 
-no-capital : (x : ℕ) → x < 10 → capital (48 + x) ≡ false
+pub no-capital : (x : ℕ) → x < 10 → capital (48 + x) ≡ false
 no-capital x h = rw (lt-leb 65 (48 + x) (omega arith))
 
-capital-of : (x : ℕ) → x < 26 → capital (65 + x) ≡ true
+pub capital-of : (x : ℕ) → x < 26 → capital (65 + x) ≡ true
 capital-of x h = rw (le-leb 65 (65 + x) (omega arith), le-leb (65 + x) 90 (omega arith))
 
 no-digit : (x : ℕ) → digit (65 + x) ≡ false
 no-digit x = rw (le-leb 48 (65 + x) (omega arith), lt-leb (65 + x) 57 (omega arith))
 
-letter : (t : Bool) → oneOf "CZ" (cond t 67 90) ≡ true
+pub letter : (t : Bool) → oneOf "CZ" (cond t 67 90) ≡ true
 letter t = either-way (λ (b : ℕ). oneOf "CZ" b ≡ true) t refl refl
 
 two-back : (n : ℕ) → n < 100 → 10 * (48 + n / 10 - 48) + (48 + n % 10 - 48) ≡ n
@@ -153,21 +154,11 @@ unfolding purgeElement
 word-purge s = word-two (s .day) (word-two (s .hour) (word-two (s .minute) ends))
 
 -- ---- no element is longer than a line
-headed-short : (last : Option ℕ) (p : ℕ) (t : List ℕ) → length t ≤ 8 → length (newPrefix last p ++ t) ≤ writtenMost
-headed-short none p t h = omega arith
-headed-short (some q) p t h = either-way (λ (x : List ℕ). length (x ++ t) ≤ writtenMost) (eqb q p) {x = []} {y = prefixBytes p} (omega arith) (omega arith)
-
-tail-short : (n k : ℕ) → length (tailOf n k) ≤ 8
-tail-short n zero = omega arith
-tail-short n (suc k) = omega arith
-
 pub element-short : (last : Option ℕ) (r : Run) → length (elementOf last r) ≤ writtenMost
-unfolding elementOf
-element-short last r = headed-short last (r .first / 1000) (tailOf (r .first % 1000) (r .more)) (tail-short (r .first % 1000) (r .more))
+element-short last r = omega (arith, element-brief last r)
 
 pub purge-short : (s : Stamp) → length (purgeElement s) ≤ writtenMost
-unfolding purgeElement
-purge-short s = omega arith
+purge-short s = omega (arith, purge-brief s)
 
 -- ---- a line that starts with a whole element opens a block
 opens-bytes : (p n y : ℕ) (t : List ℕ) → p < prefixes → n < 1000 → oneOf "->" y ≡ true → opens (prefixBytes p ++ (threeBytes n ++ (y ∷ t))) ≡ true

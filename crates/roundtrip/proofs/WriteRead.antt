@@ -1,33 +1,43 @@
--- Demand 2, of the write call's rule: the block that it gives reads back to the same set and purge. Assumes nothing.
+-- Demand 2, of the write call's rule: the block that it gives reads back to the same set and purge, also of what was read. Assumes nothing.
 use Prim.Native.Nat.{ℕ}
 use mathlib.Core.Path.{_≡_}
-use mathlib.Core.List.{List, _++_}
+use mathlib.Core.List.{List}
 use mathlib.Core.Bool.{true}
-use lib.ListN.{length}
-use Rattle.codes.proofs.Sets.{set-true}
 use Rattle.refusal.specs.Answer.{ok}
 use Rattle.calendar.specs.Purge.{isPurge}
-use Rattle.calendar.proofs.Laws.{purge-own}
+use Rattle.calendar.proofs.Laws.{purge-own, purge-is}
 use Rattle.codes.specs.Places.{isSet}
-use Rattle.codes.specs.Block.{contentAt}
+use Rattle.codes.specs.Block.{Content, contentAt}
 use Rattle.codes.specs.Written.{written}
+use Rattle.codes.proofs.Sets.{set-true, set-is}
 use Rattle.writing.specs.Write.{writtenBlock}
-use Rattle.roundtrip.proofs.RoundTrip.{content-round-trip}
-
--- the block that the rule gives, and that it reads back wherever it stands
-pub record ReadsBack (ps : List ℕ) (issue t : ℕ) : Type 0 where
-  pub block : List ℕ
-  pub given : writtenBlock ps t ≡ ok block
-  pub back : (front rest : List ℕ) → contentAt (front ++ (block ++ rest)) issue (length front) ≡ ok (record { purge = t; places = ps })
+use Rattle.roundtrip.specs.Round.{ReadsBack, Opens}
+use Rattle.roundtrip.proofs.Opened.{opened-long}
+use Rattle.roundtrip.proofs.RoundTrip.{content-round-trip, accepted}
 
 -- Every set of 1 to 120 places and every minute that is a purge under an issue is written to one block, which reads back to both under that issue.
-pub write-read : (ps : List ℕ) (issue t : ℕ) → isSet ps ≡ true → isPurge issue t ≡ true → ReadsBack ps issue t
+pub write-read : (issue : ℕ) (c : Content) → isSet (c .places) ≡ true → isPurge issue (c .purge) ≡ true → ReadsBack issue c
 unfolding writtenBlock
-write-read ps issue t s p =
-    let d = purge-own issue t p in
-    let set = set-true ps s in
+write-read issue c s p =
+    let d = purge-own issue (c .purge) p in
+    let set = set-true (c .places) s in
     record {
-      block = written ps (d .date .stamp);
+      block = written (c .places) (d .date .stamp);
       given = rw (s, d .dated);
-      back = λ front rest. content-round-trip front ps rest issue t (d .date .stamp) (set .up) (set .few) (d .given);
+      back = λ front rest. content-round-trip front (c .places) rest issue (c .purge) (d .date .stamp) (set .up) (set .few) (d .given);
     }
+
+-- The content that is read where a block opens is a set of places and a purge minute under the issue,
+pub record Writable (issue : ℕ) (c : Content) : Type 0 where
+  pub set : isSet (c .places) ≡ true
+  pub purge : isPurge issue (c .purge) ≡ true
+
+pub read-writable : (text : List ℕ) (issue start : ℕ) (c : Content) → Opens text start → contentAt text issue start ≡ ok c → Writable issue c
+read-writable text issue start c o e =
+    let a = accepted text issue start c e in
+    let one = opened-long text start (c .places) (a .stamp) (a .purge-at) o (a .read) in
+    record { set = set-is (c .places) (record { one = one; few = a .few; up = a .ascending }); purge = purge-is issue (a .stamp) (c .purge) (a .gives) }
+
+-- and so its written block reads back to it.
+pub read-again : (text : List ℕ) (issue start : ℕ) (c : Content) → Opens text start → contentAt text issue start ≡ ok c → ReadsBack issue c
+read-again text issue start c o e = let w = read-writable text issue start c o e in write-read issue c (w .set) (w .purge)
