@@ -14,11 +14,12 @@ use Rattle.calendar.specs.Purge.{isPurge}
 use Rattle.calendar.proofs.Laws.{purge-own, purge-low}
 use Rattle.codes.specs.Places.{capacity, placesEnd, isSet, ascends}
 use Rattle.codes.specs.Block.{Content}
-use Rattle.blocks.specs.Block.{blockLength, bytes32, numberAt, numbersOf, flat, checkOf, sealed, checked, allZero, sameList}
-use Rattle.blocks.specs.Content.{contentBytes, holding, contentOf, isContent, isUsed, isUnused}
+use Rattle.blocks.specs.Block.{blockLength, bytes32, numberAt, numbersOf, flat, checkOf, sealed, checked, allZero, sameList, Bytes}
+use Rattle.blocks.specs.Content.{contentBytes, holding, contentOf, isContent}
+use Rattle.blocks.specs.Good.{isUsed, isUnused}
 use Rattle.blocks.proofs.Chunks.{set-append-right, flat-length}
 use Rattle.blocks.proofs.Seals.{sealed-length, sealed-at}
-use Rattle.blocks.proofs.Numbers.{Bytes, bytes-drop, number-forth, first4, word-back, numbers-length, numbers-back}
+use Rattle.blocks.proofs.Numbers.{bytes-drop, number-forth, first4, word-back, numbers-length, numbers-back}
 use Rattle.blocks.proofs.Forms.{slice-zero, zero-in, sealed-checked, sealed-form}
 
 -- ---- the same bytes

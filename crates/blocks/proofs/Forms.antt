@@ -11,9 +11,9 @@ use lib.Seq.{slice, length-slice, getD-take, getD-drop, set-getD, ext-getD, take
 use lib.Dec.{eqb}
 use borrow.Author.Tests.{eqb-true, eq-eqb}
 use Rattle.laws.proofs.Tests.{by-order, same-test, and-left, and-right}
-use Rattle.blocks.specs.Block.{blockLength, checkOf, sealed, checked, allZero}
+use Rattle.blocks.specs.Block.{blockLength, checkOf, sealed, checked, allZero, Bytes}
 use Rattle.blocks.proofs.Seals.{check-set, sealed-again}
-use Rattle.blocks.proofs.Numbers.{Bytes, byte-at, low-byte, high-part}
+use Rattle.blocks.proofs.Numbers.{byte-at, low-byte, high-part}
 
 -- ---- zeros
 -- the test, and each byte

@@ -6,13 +6,9 @@ use native.Mathlib.Nat.{zero-add, add-mul-mod-self-left, mod-eq-of-lt, mod-add-d
 use native.Mathlib.Omega.{arith}
 use lib.ListN.{length, take, drop, getD, length-drop}
 use lib.Seq.{getD-drop, take-add}
-use Rattle.blocks.specs.Block.{blockLength, bytes32, numberAt, numbersOf, blockOf, flat}
+use Rattle.blocks.specs.Block.{blockLength, bytes32, numberAt, numbersOf, blockOf, Bytes, flat}
 
 -- ---- bytes
--- every element is a byte
-unfoldable pub Bytes : List ℕ → Type 0
-Bytes l = (i : ℕ) → getD l i 0 < 256
-
 -- one of them
 pub byte-at : (l : List ℕ) (i : ℕ) → Bytes l → getD l i 0 < 256
 unfolding Bytes

@@ -12,7 +12,8 @@ use lib.Dec.{eqb}
 use borrow.Author.Tests.{eqb-true, eq-eqb}
 use Rattle.laws.proofs.Tests.{by-order, same-test, and-left, and-right}
 use Rattle.blocks.specs.Block.{blockLength, blockCount, bookLength, sumTo, checkOf, sealed, checked, allZero, blockOf}
-use Rattle.blocks.specs.Content.{holding, isUnused}
+use Rattle.blocks.specs.Content.{holding}
+use Rattle.blocks.specs.Good.{isUnused}
 use Rattle.blocks.proofs.Forms.{zero-in, zeros-ext}
 use Rattle.blocks.proofs.Blocks.{block-length, byte-of, set-block, put-same-block, put-other-block}
 

@@ -13,7 +13,7 @@ use Rattle.calendar.specs.Window.{within, WindowOf}
 use Rattle.calendar.specs.declared.Window.{Window}
 use Rattle.codes.specs.Places.{ascends, capacity}
 use Rattle.blocks.specs.Block.{blockLength, checked, numberAt, numbersOf, allZero}
-use Rattle.blocks.specs.Content.{isUsed}
+use Rattle.blocks.specs.Good.{isUsed}
 use Rattle.blocks.proofs.Forms.{zero-split}
 
 -- the tests in the code's order

@@ -1,5 +1,5 @@
 -- Document 01, "The book": blocks of 512 bytes, their check, and the numbers in them.
-use Prim.Native.Nat.{ℕ, zero, suc, _+_, _*_, _/_, _%_}
+use Prim.Native.Nat.{ℕ, zero, suc, _+_, _*_, _/_, _%_, _<_}
 use mathlib.Core.List.{List, [], _∷_, _++_}
 use mathlib.Core.Bool.{Bool, true, false, _&&_}
 use lib.ListN.{take, drop, getD, set}
@@ -51,6 +51,10 @@ blockOf k book = take blockLength (drop (k * blockLength) book)
 -- the book with another block k
 unfoldable pub putBlock : ℕ → List ℕ → List ℕ → List ℕ
 putBlock k b book = take (k * blockLength) book ++ (b ++ drop blockLength (drop (k * blockLength) book))
+
+-- ---- bytes are numbers below 256
+unfoldable pub Bytes : List ℕ → Type 0
+Bytes l = (i : ℕ) → getD l i 0 < 256
 
 -- ---- "Unnamed and unused bytes are zero."
 unfoldable pub allZero : List ℕ → Bool

@@ -1,4 +1,4 @@
--- What the code's types mean: a content held by value.
+-- Serves the code: a content held by value.
 use Prim.Native.Nat.{_≤_}
 use mathlib.Core.Path.{_≡_}
 use lib.ListN.{length, take}

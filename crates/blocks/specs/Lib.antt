@@ -1,3 +1,4 @@
 pub mod Block
 pub mod Content
+pub mod Good
 pub mod Held

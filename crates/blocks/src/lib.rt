@@ -7,7 +7,8 @@ ghost use lib.Seq.{slice, sets};
 ghost use Rattle.calendar.specs.Window.{WindowOf};
 ghost use Rattle.codes.specs.Places.{capacity, ascends};
 ghost use Rattle.blocks.specs.Block.{sumTo, checkOf, sealed, checked, bytes32, numberAt, numbersOf, flat, blockOf, putBlock, allZero, sameList, bookLength, blockCount, blockLength};
-ghost use Rattle.blocks.specs.Content.{contentOf, holding, isUsed, isUnused};
+ghost use Rattle.blocks.specs.Content.{contentOf, holding};
+ghost use Rattle.blocks.specs.Good.{isUsed, isUnused};
 ghost use Rattle.blocks.specs.Held.{heldContent, Fits};
 
 // A content by value: the first `count` places are used.

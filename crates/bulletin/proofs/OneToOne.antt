@@ -7,9 +7,9 @@ use Rattle.laws.proofs.One.{Same}
 use Rattle.refusal.specs.Answer.{Answer}
 use Rattle.refusal.proofs.OneToOne.{refusal-one}
 use Rattle.heading.proofs.OneToOne.{heading-one, storm-one}
-use Rattle.bulletin.specs.Seen.{segmentsIn}
+use Rattle.bulletin.specs.Seen.{segmentsHeld}
 use Rattle.bulletin.specs.Report.{reportOf, readingOf, Reads}
-use Rattle.bulletin.specs.Kept.{Keeps}
+use Rattle.bulletin.specs.Kept.{KeepsPlaces}
 use Rattle.bulletin.specs.View.{paperViewed}
 use Rattle.bulletin.specs.declared.Segment.{Segment}
 use Rattle.bulletin.specs.declared.Segments.{Segments}
@@ -21,12 +21,12 @@ use Rattle.bulletin.specs.declared.Viewed.{Viewed}
 use Rattle.bulletin.specs.declared.Viewed.the-variants as viewed
 
 module _ (s t : Segments) where
-  report-same : (h k : Head) → readingOf (Accepted h) s ≡ readingOf (Accepted k) t → reportOf h (segmentsIn s) ≡ reportOf k (segmentsIn t)
+  report-same : (h k : Head) → readingOf (Accepted h) s ≡ readingOf (Accepted k) t → reportOf h (segmentsHeld s) ≡ reportOf k (segmentsHeld t)
   report-same h k e = cc
 
   reading-one : (a b : Reading) → readingOf a s ≡ readingOf b t → a ≡ b
   reading-one (Accepted h) (Accepted k) e =
-      let p : reportOf h (segmentsIn s) ≡ reportOf k (segmentsIn t) = report-same h k e in
+      let p : reportOf h (segmentsHeld s) ≡ reportOf k (segmentsHeld t) = report-same h k e in
       let g : h .heading ≡ k .heading = heading-one (h .heading) (k .heading) (λ i. p i .heading) in
       let w : h .storm ≡ k .storm = storm-one (h .storm) (k .storm) (λ i. p i .storm) in
       λ i. Accepted (record { heading = g i; identifier = p i .identifier; issue = p i .issue; storm = w i })
@@ -42,7 +42,7 @@ reads-one text year month r q x y =
     λ i. record { reading = a i; segments = b i }
 
 -- `read_keeping`
-pub keeps-one : (before m n text : List ℕ) (year month : ℕ) (r q : Bulletin) → Keeps before m text year month r → Keeps before n text year month q → Same r q m n
+pub keeps-one : (before m n text : List ℕ) (year month : ℕ) (r q : Bulletin) → KeepsPlaces before m text year month r → KeepsPlaces before n text year month q → Same r q m n
 keeps-one before m n text year month r q x y = record { answers = reads-one text year month r q (x .answer) (y .answer); bytes = x .left ∙ sym (y .left) }
 
 -- `find_segment`; for `view_answer` it is `verdict-one`, and for `view` `answer-one`

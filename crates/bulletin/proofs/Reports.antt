@@ -22,12 +22,12 @@ use Rattle.bulletin.specs.Segments as segments
 use Rattle.bulletin.specs.Segments.{fromLine3, firstLines, segmentsFrom, most, segmentsOf}
 use Rattle.bulletin.specs.Bulletin as rule
 use Rattle.bulletin.specs.Bulletin.{readBulletin}
-use Rattle.bulletin.specs.Seen.{unread, segmentsFor, segmentsIn, Sized}
+use Rattle.bulletin.specs.Seen.{unread, segmentsFor, segmentsHeld, Sized}
 use Rattle.bulletin.specs.Listing.{seenOf, seenFrom, listedBy, paperListed}
 use Rattle.bulletin.specs.KeptBy.{keptFrom}
 use Rattle.bulletin.specs.Report.{Report, reported, reportOf, paperBulletin, segmentsSaid, Reads}
 use Rattle.bulletin.specs.Below.{someSeen, listedOf, headOf, belowTop, belowOf, refusedFor, Answers}
-use Rattle.bulletin.specs.Front.{paperStormed, paperStart, checked, Above, topOf, paperTopped}
+use Rattle.bulletin.specs.Front.{paperStormed, paperStart, textChecked, Above, topOf, paperTopped}
 use Rattle.bulletin.specs.declared.Segment.{Segment}
 use Rattle.bulletin.specs.declared.Ending.{Ending}
 use Rattle.bulletin.specs.declared.Ending.the-variants as ending
@@ -77,14 +77,14 @@ module _ (s : List ℕ) (from : ℕ) (h : Head) (l : Listed) (el : paperListed l
   listed-refused r q b e = refused-answers s (listedOf s from h) ks d b r e (sym (listed-is ∙ ap (λ (e : Ending). andThen (listedBy e (l .segments)) (someSeen (length s) (reportOf h))) q))
 
   module _ (q : l .ending ≡ ending.Whole) where
-    whole-is : listedOf s from h ≡ someSeen (length s) (reportOf h) (segmentsIn (l .segments))
+    whole-is : listedOf s from h ≡ someSeen (length s) (reportOf h) (segmentsHeld (l .segments))
     unfolding andThen
     whole-is = listed-is ∙ ap (λ (e : Ending). andThen (listedBy e (l .segments)) (someSeen (length s) (reportOf h))) q
 
     pub listed-none : l .segments .count ≡ 0 → (b : Bulletin) → b ≡ refusedFor (refusalFor noSegment (length s)) → Answers s (listedOf s from h) ks d b
     listed-none z b e = refused-answers s (listedOf s from h) ks d b (refusalFor noSegment (length s)) e (sym (whole-is ∙ rw z))
 
-    pub listed-some : (l .segments .count ≡ 0 → ⊥) → l .segments ≡ segmentsFor (segmentsIn (l .segments)) → Sized (l .segments) → d ≡ keptFrom s (h .issue) 0 (segmentsIn (l .segments)) ks
+    pub listed-some : (l .segments .count ≡ 0 → ⊥) → l .segments ≡ segmentsFor (segmentsHeld (l .segments)) → Sized (l .segments) → d ≡ keptFrom s (h .issue) 0 (segmentsHeld (l .segments)) ks
         → Answers s (listedOf s from h) ks d (record { reading = reading.Accepted h; segments = l .segments })
     listed-some n f z k =
         record {
@@ -136,8 +136,8 @@ then-ok : {A B : Type 0} (x : A) (f : A → Answer B) → andThen (ok x) f ≡ f
 unfolding andThen
 then-ok x f = refl
 
-order : (s : List ℕ) (year month : ℕ) → readBulletin s year month ≡ andThen (checked s year month) (λ _. andThen (topOf s year month) (rest s))
-unfolding readBulletin checked topOf stormIn segmentsOf firstLines
+order : (s : List ℕ) (year month : ℕ) → readBulletin s year month ≡ andThen (textChecked s year month) (λ _. andThen (topOf s year month) (rest s))
+unfolding readBulletin textChecked topOf stormIn segmentsOf firstLines
 order s year month = simp (then-then, then-ok)
 
 -- ---- what is below, as the reader's answer has it
@@ -172,7 +172,7 @@ unfolding belowOf
 below-seen s t = storm-seen (length s) t (segmentsFrom most s (t .issue)) _ _
 
 -- ---- the ways out
-module _ (s : List ℕ) (year month : ℕ) (ks d : List ℕ) (v : Verdict) (ev : paperVerdict v ≡ checked s year month) where
+module _ (s : List ℕ) (year month : ℕ) (ks d : List ℕ) (v : Verdict) (ev : paperVerdict v ≡ textChecked s year month) where
   pub read-checked : (r : Refusal) → v ≡ verdict.Refused r → (b : Bulletin) → b ≡ refusedFor r → Answers s (reported (readBulletin s year month)) ks d b
   unfolding andThen
   read-checked r q b e =

@@ -11,7 +11,8 @@ use lib.Seq.{length-take-le}
 use lib.Dec.{leb}
 use borrow.Author.Tests.{leb-true}
 use Rattle.laws.proofs.Tests.{by, apart}
-use Rattle.laws.proofs.Lists.{All, all-nil, all-cons, all-found}
+use Rattle.laws.proofs.Lists.{all-found}
+use Rattle.laws.specs.Lists.{All, all-nil, all-cons}
 use Rattle.refusal.specs.Answer.{Answer, ok, no, refused, andThen, paperRefusal}
 use Rattle.refusal.specs.Numbers.{tooManyPlaces}
 use Rattle.refusal.specs.declared.Refusal.{Refusal}
@@ -25,9 +26,9 @@ use Rattle.bulletin.specs.Search.{fromFirst}
 use Rattle.bulletin.specs.Segments.{Segment, runsTo, pastPurge, opened, ninth, segmentsFrom, firstLines, most, oneOrMore, segmentsOf}
 use Rattle.bulletin.specs.Bulletin as rule
 use Rattle.bulletin.specs.Bulletin.{readBulletin}
-use Rattle.bulletin.specs.Seen.{seen, segmentsIn, Sized}
+use Rattle.bulletin.specs.Seen.{seen, segmentsHeld, Sized}
 use Rattle.bulletin.specs.Report.{reported, reportOf, paperBulletin}
-use Rattle.bulletin.specs.Kept.{keepEach, placesOf, keptOf, Keeps}
+use Rattle.bulletin.specs.Kept.{keepEach, placesOf, keptPlaces, KeepsPlaces}
 use Rattle.bulletin.specs.KeptBy.{placesSaid, placesAt, keptFrom, placesFrom, handedOn}
 use Rattle.bulletin.specs.Below.{Answers}
 use Rattle.bulletin.specs.declared.Segment as declared
@@ -173,15 +174,15 @@ module _ (text : List ℕ) (issue : ℕ) (gs : List Segment) (a : All (Says text
 
 -- ---- the promise of keeping
 module _ (s : List ℕ) (year month : ℕ) (ks₀ own : List ℕ) (b : Bulletin) (v : Answers s (reported (readBulletin s year month)) ks₀ own b) (ks : List ℕ) where
-  pub keeps-refused : (r : Refusal) → b .reading ≡ reading.Refused r → Keeps ks ks s year month b
+  pub keeps-refused : (r : Refusal) → b .reading ≡ reading.Refused r → KeepsPlaces ks ks s year month b
   keeps-refused r q =
       let f : no (r .number) (r .place) ≡ reported (readBulletin s year month) = rw q at (v .says) in
       let e = refused-by s year month r (readBulletin s year month) refl f in
-      record { answer = answers-reads s year month ks₀ own b v; left = sym (ap (λ (x : Answer rule.Bulletin). keptOf x ks) e) }
+      record { answer = answers-reads s year month ks₀ own b v; left = sym (ap (λ (x : Answer rule.Bulletin). keptPlaces x ks) e) }
 
   module _ (h : Head) (q : b .reading ≡ reading.Accepted h) (long : length ks₀ ≡ 960) where
-    told : Told s year month h (segmentsIn (b .segments))
-    told = told-by s year month h (segmentsIn (b .segments)) (readBulletin s year month) refl (rw q at (v .says))
+    told : Told s year month h (segmentsHeld (b .segments))
+    told = told-by s year month h (segmentsHeld (b .segments)) (readBulletin s year month) refl (rw q at (v .says))
 
     few : length (told .said .segments) ≤ 8
     few =
@@ -193,9 +194,9 @@ module _ (s : List ℕ) (year month : ℕ) (ks₀ own : List ℕ) (b : Bulletin)
     own-are : own ≡ keptFrom s (told .said .issue) 0 (map seen (told .said .segments)) ks₀
     own-are = v .kept h q ∙ ap₂ (λ (i : ℕ) (gs : List declared.Segment). keptFrom s i 0 gs ks₀) (told .issue) (told .seen-are)
 
-    pub keeps-accepted : (d : List ℕ) → d ≡ handedOn own (segmentsIn (b .segments)) ks → Keeps ks d s year month b
+    pub keeps-accepted : (d : List ℕ) → d ≡ handedOn own (segmentsHeld (b .segments)) ks → KeepsPlaces ks d s year month b
     keeps-accepted d e =
         let w : d ≡ keepEach placesOf 0 (told .said .segments) ks =
         e ∙ ap₂ (λ (o : List ℕ) (gs : List declared.Segment). handedOn o gs ks) own-are (told .seen-are)
         ∙ handed-is s (told .said .issue) (told .said .segments) (contents-said s year month (told .said) (told .read)) ks₀ few long ks in
-        record { answer = answers-reads s year month ks₀ own b v; left = w ∙ sym (ap (λ (x : Answer rule.Bulletin). keptOf x ks) (told .read)) }
+        record { answer = answers-reads s year month ks₀ own b v; left = w ∙ sym (ap (λ (x : Answer rule.Bulletin). keptPlaces x ks) (told .read)) }

@@ -8,7 +8,8 @@ use mathlib.Core.List.{List, [], _∷_, _++_, append-assoc, append-nil}
 use lib.ListN.{length, take, drop, set, length-set, take-append-drop}
 use lib.Seq.{length-take-le, take-suc-set, drop-drop}
 use Rattle.laws.proofs.Tests.{apart}
-use Rattle.laws.proofs.Lists.{All, all-nil, all-cons, all-set}
+use Rattle.laws.proofs.Lists.{all-set}
+use Rattle.laws.specs.Lists.{All, all-nil, all-cons}
 use Rattle.refusal.specs.Numbers.{noEnd, ninthSegment}
 use Rattle.refusal.specs.Answer.{Answer, ok, no, refusalFor, andThen}
 use Rattle.refusal.specs.declared.Refusal.{Refusal}
@@ -24,7 +25,7 @@ use Rattle.bulletin.specs.Search.{fromFirst}
 use Rattle.bulletin.specs.Searching.{linesOn, foundLines, Inside, nextIn}
 use Rattle.bulletin.specs.Segments as segments
 use Rattle.bulletin.specs.Segments.{segmentsFrom, opened, runsTo, pastPurge}
-use Rattle.bulletin.specs.Seen.{unread, segmentsFor, segmentsIn, Few, Sized}
+use Rattle.bulletin.specs.Seen.{unread, segmentsFor, segmentsHeld, Few, Sized}
 use Rattle.bulletin.specs.Listing.{seenOf, seenFrom, seenBefore, thenSeen, Begun, Stepped, paperListed}
 use Rattle.bulletin.specs.Kept.{keepEach}
 use Rattle.bulletin.specs.KeptBy.{placesAt, keptBy, keptFrom}
@@ -163,7 +164,7 @@ pub unread-sized : (gs : Segments) → gs ≡ segmentsFor [] → Sized gs
 unread-sized gs e = rw e (record { long = unread-long; few = omega arith; each = unread-few })
 
 -- segments by value are those that are held, and unread ones behind them
-pub segments-are : (gs : Segments) (hs : List Segment) → length (gs .held) ≡ 8 → gs .count ≤ 8 → drop (gs .count) (gs .held) ≡ drop (gs .count) unread → segmentsIn gs ≡ hs → gs ≡ segmentsFor hs
+pub segments-are : (gs : Segments) (hs : List Segment) → length (gs .held) ≡ 8 → gs .count ≤ 8 → drop (gs .count) (gs .held) ≡ drop (gs .count) unread → segmentsHeld gs ≡ hs → gs ≡ segmentsFor hs
 segments-are gs hs long few rest e =
     let n : gs .count ≡ length hs = sym (length-take-le (gs .count) (gs .held) (omega arith)) ∙ ap (λ (l : List Segment). length l) e in
     let a : gs .held ≡ hs ++ drop (length hs) unread =

@@ -33,24 +33,24 @@ use Rattle.bulletin.specs.Search.{later}
 use Rattle.bulletin.specs.Searching.{linesOn}
 use Rattle.bulletin.specs.Bulletin as rule
 use Rattle.bulletin.specs.Bulletin.{isLength, line1, line2}
-use Rattle.bulletin.specs.Front.{checked, topOf, paperTopped}
+use Rattle.bulletin.specs.Front.{textChecked, topOf, paperTopped}
 use Rattle.bulletin.specs.declared.Topped.{Topped}
 use Rattle.bulletin.specs.declared.Topped.the-variants as topped
 use Rattle.bulletin.proofs.Seeking.{body-of}
 
 -- ---- 1, 5, 2
 module _ (s : List ℕ) (year month : ℕ) where
-  pub check-length : (leb 1 (length s) && leb (length s) 16384) ≡ false → (r : Verdict) → r ≡ verdict.Refused (refusalFor wrongLength 0) → paperVerdict r ≡ checked s year month
-  unfolding checked isLength andThen
+  pub check-length : (leb 1 (length s) && leb (length s) 16384) ≡ false → (r : Verdict) → r ≡ verdict.Refused (refusalFor wrongLength 0) → paperVerdict r ≡ textChecked s year month
+  unfolding textChecked isLength andThen
   check-length n r e = rw (e, n)
 
   module _ (y : (leb 1 (length s) && leb (length s) 16384) ≡ true) (t : Bool) (et : t ≡ isIssueMonth year month) where
-    pub check-month : t ≡ false → (r : Verdict) → r ≡ verdict.Refused (refusalFor wrongTime 0) → paperVerdict r ≡ checked s year month
-    unfolding checked isLength andThen
+    pub check-month : t ≡ false → (r : Verdict) → r ≡ verdict.Refused (refusalFor wrongTime 0) → paperVerdict r ≡ textChecked s year month
+    unfolding textChecked isLength andThen
     check-month n r e = rw (e, y, ← et, n)
 
-    pub check-text : t ≡ true → (r : Verdict) → paperVerdict r ≡ checkText s → paperVerdict r ≡ checked s year month
-    unfolding checked isLength andThen
+    pub check-text : t ≡ true → (r : Verdict) → paperVerdict r ≡ checkText s → paperVerdict r ≡ textChecked s year month
+    unfolding textChecked isLength andThen
     check-text q r e = rw (y, ← et, q) e
 
 -- ---- the lines one by one

@@ -12,9 +12,9 @@ use Rattle.refusal.specs.declared.Refusal.{Refusal}
 use Rattle.refusal.specs.declared.Verdict.the-variants as verdict
 use Rattle.lines.specs.Spans.{part}
 use Rattle.bulletin.specs.Bulletin.{readBulletin}
-use Rattle.bulletin.specs.Seen.{segmentsIn, Sized}
+use Rattle.bulletin.specs.Seen.{segmentsHeld, Sized}
 use Rattle.bulletin.specs.Report.{reported, paperBulletin, Reads}
-use Rattle.bulletin.specs.View.{numbered, viewOf, paperViewed, accepted, partOf}
+use Rattle.bulletin.specs.View.{numbered, viewOf, paperViewed, accepted, partViewed}
 use Rattle.bulletin.specs.declared.Segment.{Segment}
 use Rattle.bulletin.specs.declared.Head.{Head}
 use Rattle.bulletin.specs.declared.Reading.the-variants as reading
@@ -48,35 +48,35 @@ module _ (s : List ℕ) (year month n : ℕ) (b : Bulletin) (reads : Reads s yea
   view-refused r q = rw (← eb, q)
 
   module _ (h : Head) (q : b .reading ≡ reading.Accepted h) (z : Sized (b .segments)) where
-    view-is : viewOf s year month n ≡ numbered n (segmentsIn (b .segments))
+    view-is : viewOf s year month n ≡ numbered n (segmentsHeld (b .segments))
     unfolding viewOf andThen
     view-is = rw (← eb, q)
 
-    long : length (segmentsIn (b .segments)) ≡ b .segments .count
+    long : length (segmentsHeld (b .segments)) ≡ b .segments .count
     long = length-take-le (b .segments .count) (b .segments .held) (omega (arith, z .long, z .few))
 
     pub view-one : 1 ≤ n → n ≤ b .segments .count → (d : Segment) → paperViewed (viewed.One (getD (b .segments .held) (n - 1) d)) ≡ viewOf s year month n
     view-one low high d =
         let e : n ≡ suc (n - 1) = omega arith in
-        sym (view-is ∙ ap (λ (k : ℕ). numbered k (segmentsIn (b .segments))) e ∙ numbered-at d (n - 1) (segmentsIn (b .segments)) (omega (arith, long))
+        sym (view-is ∙ ap (λ (k : ℕ). numbered k (segmentsHeld (b .segments))) e ∙ numbered-at d (n - 1) (segmentsHeld (b .segments)) (omega (arith, long))
         ∙ ap ok (getD-take (b .segments .count) (b .segments .held) (n - 1) d (omega arith)))
 
     pub view-low : n < 1 → (v : Viewed) → v ≡ viewed.Refused (refusalFor noSuchSegment 0) → paperViewed v ≡ viewOf s year month n
     view-low k v w =
         let e : n ≡ 0 = omega arith in
-        rw w (sym (view-is ∙ ap (λ (m : ℕ). numbered m (segmentsIn (b .segments))) e ∙ numbered-zero (segmentsIn (b .segments))))
+        rw w (sym (view-is ∙ ap (λ (m : ℕ). numbered m (segmentsHeld (b .segments))) e ∙ numbered-zero (segmentsHeld (b .segments))))
 
     pub view-far : b .segments .count < n → (v : Viewed) → v ≡ viewed.Refused (refusalFor noSuchSegment 0) → paperViewed v ≡ viewOf s year month n
     view-far k v w =
         let e : n ≡ suc (n - 1) = omega arith in
-        rw w (sym (view-is ∙ ap (λ (m : ℕ). numbered m (segmentsIn (b .segments))) e ∙ numbered-past (n - 1) (segmentsIn (b .segments)) (omega (arith, long))))
+        rw w (sym (view-is ∙ ap (λ (m : ℕ). numbered m (segmentsHeld (b .segments))) e ∙ numbered-past (n - 1) (segmentsHeld (b .segments)) (omega (arith, long))))
 
 -- ---- the part, and the answer beside it
 module _ (s : List ℕ) (o : Answer Segment) (v : Viewed) (e : paperViewed v ≡ o) where
-  pub part-one : (g : Segment) → v ≡ viewed.One g → (p : List ℕ) → p ≡ part s (g .start) (g .past) → p ≡ partOf o s
+  pub part-one : (g : Segment) → v ≡ viewed.One g → (p : List ℕ) → p ≡ part s (g .start) (g .past) → p ≡ partViewed o s
   part-one g q p h = h ∙ rw (← e, q)
 
-  pub part-no : (r : Refusal) → v ≡ viewed.Refused r → (p : List ℕ) → p ≡ part s 0 0 → p ≡ partOf o s
+  pub part-no : (r : Refusal) → v ≡ viewed.Refused r → (p : List ℕ) → p ≡ part s 0 0 → p ≡ partViewed o s
   part-no r q p h = h ∙ rw (← e, q)
 
   pub accepted-one : (g : Segment) → v ≡ viewed.One g → paperVerdict verdict.Accepted ≡ accepted o

@@ -15,7 +15,7 @@ use Rattle.bulletin.specs.Search.{fromFirst, upToFirst, afterFirst, clos
 use Rattle.bulletin.specs.Searching.{linesOn}
 use Rattle.bulletin.specs.Mnd.{officeStorm}
 use Rattle.bulletin.specs.Segments.{fromLine3, segmentsFrom, most}
-use Rattle.bulletin.specs.Seen.{segmentsFor, segmentsIn, Sized}
+use Rattle.bulletin.specs.Seen.{segmentsFor, segmentsHeld, Sized}
 use Rattle.bulletin.specs.Listing.{seenOf, seenFrom}
 use Rattle.bulletin.specs.KeptBy.{keptFrom}
 use Rattle.bulletin.specs.Report.{Report, reportOf, paperBulletin, segmentsSaid}
@@ -53,4 +53,4 @@ pub record Answers (text : List ℕ) (said : Answer Report) (before after : List
   pub says : paperBulletin b ≡ said
   pub segments : b .segments ≡ segmentsFor (segmentsSaid (paperBulletin b))
   pub sized : Sized (b .segments)
-  pub kept : (h : Head) → b .reading ≡ reading.Accepted h → after ≡ keptFrom text (h .issue) 0 (segmentsIn (b .segments)) before
+  pub kept : (h : Head) → b .reading ≡ reading.Accepted h → after ≡ keptFrom text (h .issue) 0 (segmentsHeld (b .segments)) before

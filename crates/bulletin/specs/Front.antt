@@ -30,8 +30,8 @@ paperStart text (start.From at) = ok (linesOn text at)
 paperStart text (start.Refused r) = paperRefusal r
 
 -- 1, 5 (year, month), 2
-unfoldable pub checked : List ℕ → ℕ → ℕ → Answer Unit
-checked text year month =
+unfoldable pub textChecked : List ℕ → ℕ → ℕ → Answer Unit
+textChecked text year month =
     andThen (must (isLength text) wrongLength 0) λ _.
     andThen (must (isIssueMonth year month) wrongTime 0) λ _.
     checkText text

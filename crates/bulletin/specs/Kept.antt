@@ -26,11 +26,11 @@ keepEach f i (g ∷ gs) ks = keepEach f (suc i) gs (keepAt (capacity * i) (f i g
 abbrev pub placesOf : ℕ → Segment → List ℕ
 placesOf i g = g .content .places
 
-abbrev pub keptOf : Answer rule.Bulletin → List ℕ → List ℕ
-keptOf (ok b) ks = keepEach placesOf 0 (b .segments) ks
-keptOf (no number place) ks = ks
+abbrev pub keptPlaces : Answer rule.Bulletin → List ℕ → List ℕ
+keptPlaces (ok b) ks = keepEach placesOf 0 (b .segments) ks
+keptPlaces (no number place) ks = ks
 
 -- the promise: the answer, and the lent numbers afterwards
-pub record Keeps (before after text : List ℕ) (year month : ℕ) (b : Bulletin) : Type 0 where
+pub record KeepsPlaces (before after text : List ℕ) (year month : ℕ) (b : Bulletin) : Type 0 where
   pub answer : Reads text year month b
-  pub left : after ≡ keptOf (rule.readBulletin text year month) before
+  pub left : after ≡ keptPlaces (rule.readBulletin text year month) before

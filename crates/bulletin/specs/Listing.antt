@@ -6,7 +6,7 @@ use Rattle.refusal.specs.Answer.{Answer, ok, no, paperRefusal}
 use Rattle.bulletin.specs.Searching.{linesOn}
 use Rattle.bulletin.specs.Segments as segments
 use Rattle.bulletin.specs.Segments.{segmentsFrom, opened}
-use Rattle.bulletin.specs.Seen.{seen, segmentsIn, Few}
+use Rattle.bulletin.specs.Seen.{seen, segmentsHeld, Few}
 use Rattle.bulletin.specs.declared.Segment.{Segment}
 use Rattle.bulletin.specs.declared.Segments.{Segments}
 use Rattle.bulletin.specs.declared.Next.{Next}
@@ -47,7 +47,7 @@ pub record Stepped (text : List ℕ) (issue n at : ℕ) (r : Next) : Type 0 wher
 
 -- ---- all of them
 abbrev pub listedBy : Ending → Segments → Answer (List Segment)
-listedBy ending.Whole gs = ok (segmentsIn gs)
+listedBy ending.Whole gs = ok (segmentsHeld gs)
 listedBy (ending.Refused r) gs = paperRefusal r
 
 abbrev pub paperListed : Listed → Answer (List Segment)

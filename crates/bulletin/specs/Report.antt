@@ -8,7 +8,7 @@ use Rattle.heading.specs.Heading.{Heading}
 use Rattle.heading.specs.Storm.{StormName}
 use Rattle.heading.specs.Paper.{paperHeading, paperStorm}
 use Rattle.bulletin.specs.Bulletin as rule
-use Rattle.bulletin.specs.Seen.{seen, segmentsFor, segmentsIn}
+use Rattle.bulletin.specs.Seen.{seen, segmentsFor, segmentsHeld}
 use Rattle.bulletin.specs.declared.Segment.{Segment}
 use Rattle.bulletin.specs.declared.Segments.{Segments}
 use Rattle.bulletin.specs.declared.Head.{Head}
@@ -32,7 +32,7 @@ abbrev pub reportOf : Head → List Segment → Report
 reportOf h gs = record { heading = paperHeading (h .heading); identifier = h .identifier; issue = h .issue; storm = paperStorm (h .storm); segments = gs }
 
 abbrev pub readingOf : Reading → Segments → Answer Report
-readingOf (reading.Accepted h) gs = ok (reportOf h (segmentsIn gs))
+readingOf (reading.Accepted h) gs = ok (reportOf h (segmentsHeld gs))
 readingOf (reading.Refused r) gs = paperRefusal r
 
 abbrev pub paperBulletin : Bulletin → Answer Report

@@ -1,9 +1,9 @@
 -- Serves the code: what its types mean, a segment as the reader's answer has it, with its purge minute and the count of its places, and an array of them.
-use Prim.Native.Nat.{ℕ, _≤_}
+use Prim.Native.Nat.{_≤_}
 use mathlib.Core.Path.{_≡_}
 use mathlib.Core.List.{List, _++_}
 use lib.ListN.{length, take, drop, replicate}
-use Rattle.laws.proofs.Lists.{All}
+use Rattle.laws.specs.Lists.{All}
 use Rattle.codes.specs.Places.{capacity}
 use Rattle.bulletin.specs.Segments as segments
 use Rattle.bulletin.specs.Segments.{most}
@@ -20,8 +20,8 @@ unread = replicate most (record { start = 0; block = 0; past = 0; purge = 0; cou
 abbrev pub segmentsFor : List Segment → Segments
 segmentsFor gs = record { held = gs ++ drop (length gs) unread; count = length gs }
 
-abbrev pub segmentsIn : Segments → List Segment
-segmentsIn gs = take (gs .count) (gs .held)
+abbrev pub segmentsHeld : Segments → List Segment
+segmentsHeld gs = take (gs .count) (gs .held)
 
 -- a segment has at most 120 places
 abbrev pub Few : Segment → Type 0

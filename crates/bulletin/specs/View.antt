@@ -32,6 +32,6 @@ accepted (ok g) = ok tt
 accepted (no number place) = no number place
 
 -- "a returned part is empty" on refusal
-abbrev pub partOf : Answer Segment → List ℕ → List ℕ
-partOf (ok g) text = part text (g .start) (g .past)
-partOf (no number place) text = []
+abbrev pub partViewed : Answer Segment → List ℕ → List ℕ
+partViewed (ok g) text = part text (g .start) (g .past)
+partViewed (no number place) text = []

@@ -19,13 +19,13 @@ ghost use Rattle.bulletin.specs.Search.{fromFirst, upToFirst, afterFirst
 ghost use Rattle.bulletin.specs.Mnd.{officeStorm};
 ghost use Rattle.bulletin.specs.Bulletin.{readBulletin};
 ghost use Rattle.bulletin.specs.Report.{reported, Reads};
-ghost use Rattle.bulletin.specs.View.{viewOf, paperViewed, accepted, partOf};
-ghost use Rattle.bulletin.specs.Kept.{keepAt, Keeps};
+ghost use Rattle.bulletin.specs.View.{viewOf, paperViewed, accepted, partViewed};
+ghost use Rattle.bulletin.specs.Kept.{keepAt, KeepsPlaces};
 ghost use Rattle.bulletin.specs.Searching.{testOf, mayOpen, linesOn, foundLines, Inside, nextIn};
-ghost use Rattle.bulletin.specs.Seen.{unread, segmentsFor, segmentsIn, Sized};
+ghost use Rattle.bulletin.specs.Seen.{unread, segmentsFor, segmentsHeld, Sized};
 ghost use Rattle.bulletin.specs.Listing.{Begun, Stepped, seenFrom, paperListed};
 ghost use Rattle.bulletin.specs.KeptBy.{keptBy, keptFrom, handedOn};
-ghost use Rattle.bulletin.specs.Front.{paperStormed, paperStart, checked, paperTopped, topOf};
+ghost use Rattle.bulletin.specs.Front.{paperStormed, paperStart, textChecked, paperTopped, topOf};
 ghost use Rattle.bulletin.specs.Below.{listedOf, belowOf, refusedFor, Answers};
 ghost use Rattle.lines.specs.Lines.{opens};
 ghost use Rattle.heading.specs.Storm.{isOffice};
@@ -260,9 +260,9 @@ fn unread() -> [Segment; 8]
 // The segments from `from` on: at most eight.
 fn read_segments(text: &[u8], from: usize, issue: usize, kept: &mut [u32]) -> Listed
     ensures is { λ r. ⌜ paperListed r ≡ seenFrom most (now (text .entry)) issue from ⌝ }
-    ensures segments { λ r. ⌜ r .segments ≡ segmentsFor (segmentsIn (r .segments)) ⌝ }
+    ensures segments { λ r. ⌜ r .segments ≡ segmentsFor (segmentsHeld (r .segments)) ⌝ }
     ensures sized { λ r. ⌜ Sized (r .segments) ⌝ }
-    ensures kept { λ r. ⌜ now (kept .exit) ≡ keptFrom (now (text .entry)) issue 0 (segmentsIn (r .segments)) (now (kept .entry)) ⌝ }
+    ensures kept { λ r. ⌜ now (kept .exit) ≡ keptFrom (now (text .entry)) issue 0 (segmentsHeld (r .segments)) (now (kept .entry)) ⌝ }
 {
     let mut held = unread();
     let mut count = 0;
@@ -377,7 +377,7 @@ fn wrong(number: usize) -> Verdict
 
 // 1, 5 (year, month) and 2.
 fn check(text: &[u8], year: usize, month: usize) -> Verdict
-    ensures { λ r. ⌜ paperVerdict r ≡ checked (now (text .entry)) year month ⌝ }
+    ensures { λ r. ⌜ paperVerdict r ≡ textChecked (now (text .entry)) year month ⌝ }
 {
     let n = text.len();
     if (1 <= n) & (n <= 16384) {
@@ -519,7 +519,7 @@ fn read_into(text: &[u8], year: usize, month: usize, kept: &mut [u32]) -> Bullet
 fn hand_on(kept: &mut [u32], own: &[u32], segments: Segments)
     requires { ⌜ length (now own) ≡ 960 ⌝ }
     requires { ⌜ Sized segments ⌝ }
-    ensures { λ _. ⌜ now (kept .exit) ≡ handedOn (now (own .entry)) (segmentsIn segments) (now (kept .entry)) ⌝ }
+    ensures { λ _. ⌜ now (kept .exit) ≡ handedOn (now (own .entry)) (segmentsHeld segments) (now (kept .entry)) ⌝ }
 {
     let held = segments.held;
     let count = segments.count;
@@ -536,7 +536,7 @@ fn hand_on(kept: &mut [u32], own: &[u32], segments: Segments)
 // A whole bulletin, under the year and month of its issue. If it is accepted, the places of segment i, counted from 0, are in the lent numbers from 120 * i on, if there is
 // room for 120 there. The other numbers stay as they were, and on a refusal all of them: so they are kept apart until the bulletin is read.
 pub fn read_keeping(text: &[u8], year: usize, month: usize, kept: &mut [u32]) -> Bulletin
-    ensures is { λ r. ⌜ Keeps (now (kept .entry)) (now (kept .exit)) (now (text .entry)) year month r ⌝ }
+    ensures is { λ r. ⌜ KeepsPlaces (now (kept .entry)) (now (kept .exit)) (now (text .entry)) year month r ⌝ }
     ensures sized { λ r. ⌜ Sized (r .segments) ⌝ }
 {
     let mut own: [u32; 960] = [0; 960];
@@ -608,7 +608,7 @@ pub fn view_answer(text: &[u8], year: usize, month: usize, n: usize) -> Verdict
 
 // Segment n as a part of the caller's own text, its `$$` line with it; empty on refusal.
 pub fn view(text: &[u8], year: usize, month: usize, n: usize) -> &[u8]
-    ensures { λ r. ⌜ now r ≡ partOf (viewOf (now (text .entry)) year month n) (now (text .entry)) ⌝ }
+    ensures { λ r. ⌜ now r ≡ partViewed (viewOf (now (text .entry)) year month n) (now (text .entry)) ⌝ }
 {
     match find_segment(text, year, month, n) {
         Viewed::One(segment) => lines::part(text, segment.start, segment.past),

@@ -11,7 +11,8 @@ use mir.Syntax.{w64}
 use mir.Val.{Fits}
 use borrow.Author.Tests.{leb-true, ltb-true, lt-ltb, le-leb, lt-leb, ne-eqb, eq-eqb, eqb-true, not-true, not-false}
 use Rattle.laws.proofs.Tests.{by, by-order, impossible, apart, and-left, and-right, same-test}
-use Rattle.laws.proofs.Tables.{every, every-at}
+use Rattle.laws.proofs.Tables.{every-at}
+use Rattle.laws.specs.Lists.{every}
 use Rattle.calendar.specs.declared.Stamp.{Stamp}
 use Rattle.calendar.specs.declared.Date.{Date}
 use Rattle.calendar.specs.declared.Month.{Month}

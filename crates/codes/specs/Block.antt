@@ -57,11 +57,6 @@ readAt stop at text = readFrom stop none [] (elementsFrom at text)
 unfoldable pub readBlock : List ℕ → ℕ → Read
 readBlock text at = readAt (length text) at (drop at text)
 
--- the place of the element that the reading came to: the purge, or the first wrong one
-abbrev pub lastOf : Read → ℕ
-lastOf (block ps s at) = at
-lastOf (wrongAt place) = place
-
 -- ---- "A place is addressed exactly if some element covers it"
 pub data Covered (q : ℕ) : Option ℕ → List Element → Type 0 where
   here : {last : Option ℕ} {e : Element} {es : List Element} (p n m : ℕ) → said last (e .bytes) ≡ covers p n m

@@ -44,9 +44,9 @@ stepOver e next (elements.covers p n m) = Step.Covers p n m (record { at = next;
 stepOver e next (elements.purge s) = purged (e .last) s (e .at) (e .at + length (e .bytes))
 stepOver e next elements.wrong = Step.Wrong (e .at)
 
-abbrev pub stepOf : ℕ → Option ℕ → List Element → Step
-stepOf stop last [] = Step.Wrong stop
-stepOf stop last (e ∷ es) = stepOver e (nextPlace stop es) (said last (e .bytes))
+abbrev pub stepFrom : ℕ → Option ℕ → List Element → Step
+stepFrom stop last [] = Step.Wrong stop
+stepFrom stop last (e ∷ es) = stepOver e (nextPlace stop es) (said last (e .bytes))
 
 -- ---- the element that starts at a place and runs up to another, and the elements after it
 -- "A line of the block ends after a `-`": the next element stands behind the line's end, if one stands there
@@ -68,4 +68,4 @@ pub record Runs (text : List ℕ) (at after : ℕ) : Type 0 where
       ≡ record { at = at; bytes = part text at after; last = lastOfLine text after } ∷ elementsFrom (pastEnd text after) (drop (pastEnd text after) text)
 
 unfoldable pub stepAt : List ℕ → Cursor → Step
-stepAt text c = stepOf (length text) (paperLast (c .last)) (elementsFrom (c .at) (drop (c .at) text))
+stepAt text c = stepFrom (length text) (paperLast (c .last)) (elementsFrom (c .at) (drop (c .at) text))

@@ -15,9 +15,8 @@ use Rattle.refusal.specs.declared.Refusal.{Refusal}
 use Rattle.refusal.specs.declared.Verdict.the-variants.{Accepted, Refused}
 use Rattle.codes.specs.Places.{capacity}
 use Rattle.codes.specs.Block.{Content}
-use Rattle.blocks.specs.Block.{bookLength, blockCount, numberAt, blockOf, putBlock}
+use Rattle.blocks.specs.Block.{bookLength, blockCount, numberAt, blockOf, putBlock, Bytes}
 use Rattle.blocks.specs.Content.{holding, contentOf}
-use Rattle.blocks.proofs.Numbers.{Bytes}
 use Rattle.blocks.proofs.Contents as contents
 use Rattle.blocks.proofs.Contents.{content-said, content-used, sound-true}
 use Rattle.steps.specs.Book.{Copy, Draft, closed, working, at, draftAt}

@@ -27,7 +27,7 @@ use Rattle.layout.proofs.ForthIndex.{or-closed}
 use Rattle.moves.proofs.Parts.{block-of-copy, held-put, held-new}
 use Rattle.moves.proofs.StepsStands.{upd-at, stands-put}
 use Rattle.moves.proofs.StepsLies.{partsIn, lies-stands, stands-lies}
-use Rattle.copies.specs.Copies.{later, indexOf}
+use Rattle.copies.specs.Copies.{oneOn, indexOf}
 
 -- ---- the copy of a segment
 pub record Indexed (s : ℕ) (ks : List Copy) (n : ℕ) : Type 0 where
@@ -76,10 +76,10 @@ index-some s [] n e = apart cc
 index-some s (k ∷ ks) n e =
     by (eqb s (k .segment))
     (λ t. let f : some 0 ≡ some n = rw t at e in let z : 0 ≡ n = cc in subst (Indexed s (k ∷ ks)) z (indexed-here s k ks t))
-    (λ t. let f : later (indexOf s ks) ≡ some n = rw t at e in
+    (λ t. let f : oneOn (indexOf s ks) ≡ some n = rw t at e in
     behind (indexOf s ks) refl f t (λ m. index-some s ks m))
   where
-    behind : (o : Option ℕ) → indexOf s ks ≡ o → later o ≡ some n → eqb s (k .segment) ≡ false → ((m : ℕ) → indexOf s ks ≡ some m → Indexed s ks m) → Indexed s (k ∷ ks) n
+    behind : (o : Option ℕ) → indexOf s ks ≡ o → oneOn o ≡ some n → eqb s (k .segment) ≡ false → ((m : ℕ) → indexOf s ks ≡ some m → Indexed s ks m) → Indexed s (k ∷ ks) n
     behind none q f t next = apart cc
     behind (some m) q f t next = let z : suc m ≡ n = cc in subst (Indexed s (k ∷ ks)) z (indexed-later s k ks m t (next m q))
 
@@ -88,9 +88,9 @@ unfolding indexOf copyOf
 index-none s [] e = refl
 index-none s (k ∷ ks) e =
     by (eqb s (k .segment)) (λ t. let f : some 0 ≡ none = rw t at e in apart cc)
-    (λ t. let f : later (indexOf s ks) ≡ none = rw t at e in rw t (index-none s ks (behind (indexOf s ks) f)))
+    (λ t. let f : oneOn (indexOf s ks) ≡ none = rw t at e in rw t (index-none s ks (behind (indexOf s ks) f)))
   where
-    behind : (o : Option ℕ) → later o ≡ none → o ≡ none
+    behind : (o : Option ℕ) → oneOn o ≡ none → o ≡ none
     behind none f = refl
     behind (some m) f = apart cc
 

@@ -23,7 +23,7 @@ use Rattle.layout.proofs.Parts.{sound-parts, draft-cases}
 use Rattle.layout.proofs.Said.{drafts-length, draft-of, segment-of, segment-past, copies-none, copies-one, copies-two}
 use Rattle.layout.proofs.Shown.{second-needs}
 use Rattle.copies.specs.Admission.{isOpen, exists, admission}
-use Rattle.copies.specs.Copies.{indexOf, blockIn, copyBlock, paperFound, Admitted}
+use Rattle.copies.specs.Copies.{indexOf, blockIn, copyBlock, paperCopy, Admitted}
 use Rattle.copies.specs.declared.Found.the-variants as found
 
 -- ---- an open draft
@@ -150,7 +150,7 @@ module _ (l : List ℕ) where
 
   -- the ways out
   module _ (d s : ℕ) (a : Admitted l d s) (first : ℕ) (is-first : first ≡ getD l (4 * d + 5) 0) where
-    pub find-first : first ≡ s → paperFound (found.Copy (2 * d + 7)) ≡ copyBlock l d s
+    pub find-first : first ≡ s → paperCopy (found.Copy (2 * d + 7)) ≡ copyBlock l d s
     find-first e =
         let n : 2 * d + 7 ≡ 7 + 2 * d + 0 = omega arith in
         ap some n ∙ sym (copy-block-is d s a ∙ rw (eq-eqb s (getD l (4 * d + 5) 0) (sym e ∙ is-first)))
@@ -159,11 +159,11 @@ module _ (l : List ℕ) where
       no : s ≡ getD l (4 * d + 5) 0 → ⊥
       no q = other (is-first ∙ sym q)
 
-      pub find-second : second ≡ s → paperFound (found.Copy (2 * d + 8)) ≡ copyBlock l d s
+      pub find-second : second ≡ s → paperCopy (found.Copy (2 * d + 8)) ≡ copyBlock l d s
       find-second e =
           let n : 2 * d + 8 ≡ 7 + 2 * d + 1 = omega arith in
           ap some n ∙ sym (copy-block-is d s a ∙ rw (ne-eqb s (getD l (4 * d + 5) 0) no, eq-eqb s (getD l (4 * d + 6) 0) (sym e ∙ is-second)))
 
-      pub find-none : (second ≡ s → ⊥) → paperFound found.NotTaken ≡ copyBlock l d s
+      pub find-none : (second ≡ s → ⊥) → paperCopy found.NotTaken ≡ copyBlock l d s
       find-none e =
           sym (copy-block-is d s a ∙ rw (ne-eqb s (getD l (4 * d + 5) 0) no, ne-eqb s (getD l (4 * d + 6) 0) (λ q. e (is-second ∙ sym q))))

@@ -13,18 +13,17 @@ use Rattle.refusal.specs.declared.Verdict.{Verdict}
 use Rattle.refusal.specs.declared.Verdict.the-variants.{Accepted, Refused}
 use Rattle.codes.specs.Block.{Content}
 use Rattle.codes.specs.Places.{capacity}
-use Rattle.blocks.specs.Block.{bookLength, blockCount, numberAt, blockOf}
+use Rattle.blocks.specs.Block.{bookLength, blockCount, numberAt, blockOf, Bytes}
 use Rattle.blocks.specs.Content.{contentOf}
 use Rattle.blocks.specs.Held.{heldContent, Fits}
 use Rattle.blocks.specs.declared.Held.{Held}
-use Rattle.blocks.proofs.Numbers.{Bytes}
 use Rattle.steps.specs.Calls.{Edit, Work, editing, on, inRange}
 use Rattle.steps.proofs.Leaving.{edited}
 use Rattle.layout.specs.Rule.{onBytes, paperReply, Does}
 use Rattle.layout.specs.declared.Reply.{Reply}
 use Rattle.layout.specs.declared.Reply.the-variants as reply
 use Rattle.copies.specs.Admission.{admission}
-use Rattle.copies.specs.Copies.{copyBlock, paperFound, Admitted}
+use Rattle.copies.specs.Copies.{copyBlock, paperCopy, Admitted}
 use Rattle.copies.specs.declared.Found.{Found}
 use Rattle.copies.specs.declared.Found.the-variants as found
 use Rattle.copies.proofs.Works.{base-of}
@@ -49,9 +48,9 @@ module _ (l : List ℕ) (y : Bytes l) (d s : ℕ) (v : Verdict) where
     in-book = admitting l d s v t is says
 
     -- there is a copy
-    module _ (f : Found) (is-at : paperFound f ≡ copyBlock l d s) where
+    module _ (f : Found) (is-at : paperCopy f ≡ copyBlock l d s) where
       pub working : (k : ℕ) → f ≡ found.Copy k → Works l d s k
-      working k q = works-at l d s k (base-of l y (in-book .sound)) in-book (sym is-at ∙ ap paperFound q)
+      working k q = works-at l d s k (base-of l y (in-book .sound)) in-book (sym is-at ∙ ap paperCopy q)
 
       module _ (k : ℕ) (q : f ≡ found.Copy k) where
         pub load-long : length l ≡ bookLength
@@ -67,7 +66,7 @@ module _ (l : List ℕ) (y : Bytes l) (d s : ℕ) (v : Verdict) where
       module _ (e : Edit) (r : inRange (editing e) ≡ true) (none : f ≡ found.NotTaken) (a : Reply) (answers : a ≡ reply.Refused (refusalFor notTaken 0)) where
         pub absent-does : Does l l (on d s (editing e)) a
         absent-does =
-            let same = absent-at l d s e (base-of l y (in-book .sound)) in-book r (sym is-at ∙ ap paperFound none) in
+            let same = absent-at l d s e (base-of l y (in-book .sound)) in-book r (sym is-at ∙ ap paperCopy none) in
             record { answer = ap paperReply answers ∙ same .answer; left = same .bytes }
 
 -- ---- a work on the copy, by the content that was loaded

@@ -14,10 +14,9 @@ use Rattle.refusal.specs.Numbers.{notTaken}
 use Rattle.refusal.specs.Answer.{Answer, ok, no, refused}
 use Rattle.codes.specs.Places.{capacity}
 use Rattle.codes.specs.Block.{Content}
-use Rattle.blocks.specs.Block.{sealed, blockOf, putBlock}
+use Rattle.blocks.specs.Block.{sealed, blockOf, putBlock, Bytes}
 use Rattle.blocks.specs.Content.{holding, isContent}
 use Rattle.blocks.proofs.Blocks.{put-other-block}
-use Rattle.blocks.proofs.Numbers.{Bytes}
 use Rattle.blocks.proofs.Contents.{used-length}
 use Rattle.steps.specs.Book.{Copy, Draft, closed, working, Book, at, draftAt}
 use Rattle.steps.specs.Calls.{Edit, editing, on, Value, BookAnswer, settle, editRule, inRange, copyOf, recopy, withDrafts}

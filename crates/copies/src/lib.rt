@@ -7,7 +7,7 @@ ghost use Rattle.blocks.specs.Block.{bookLength};
 ghost use Rattle.steps.specs.Book.{at, draftAt};
 ghost use Rattle.layout.specs.Layout.{bookOf};
 ghost use Rattle.copies.specs.Admission.{isOpen, exists, admission};
-ghost use Rattle.copies.specs.Copies.{paperFound, copyBlock, Admitted};
+ghost use Rattle.copies.specs.Copies.{paperCopy, copyBlock, Admitted};
 use refusal::Refusal;
 use refusal::Verdict;
 
@@ -78,7 +78,7 @@ pub fn admit(book: &[u8], d: usize, in_range: bool, s: usize) -> Verdict
 // The block of a draft's copy of a segment.
 pub fn find_copy(book: &[u8], d: usize, s: usize) -> Found
     requires { ⌜ Admitted (now book) d s ⌝ }
-    ensures { λ r. ⌜ paperFound r ≡ copyBlock (now (book .entry)) d s ⌝ }
+    ensures { λ r. ⌜ paperCopy r ≡ copyBlock (now (book .entry)) d s ⌝ }
 {
     let first = blocks::size(book[4 * d + 5]);
     if first == s {

@@ -13,18 +13,17 @@ use Rattle.refusal.specs.declared.Refusal.{Refusal}
 use Rattle.refusal.specs.declared.Verdict.{Verdict}
 use Rattle.refusal.specs.declared.Verdict.the-variants.{Accepted, Refused}
 use Rattle.codes.specs.Block.{Content}
-use Rattle.blocks.specs.Block.{numberAt, blockOf}
+use Rattle.blocks.specs.Block.{numberAt, blockOf, Bytes}
 use Rattle.blocks.specs.Content.{contentOf}
 use Rattle.blocks.specs.Held.{heldContent, Fits}
 use Rattle.blocks.specs.declared.Held.{Held}
-use Rattle.blocks.proofs.Numbers.{Bytes}
 use Rattle.steps.specs.Calls.{Edit, readPurge, readCount, readPlace, editing, on, inRange, Value, BookAnswer, number, settle, editRule}
 use Rattle.steps.proofs.Order.{index-past, index-there}
 use Rattle.layout.specs.Rule.{onBytes, paperReply}
 use Rattle.layout.specs.declared.Reply.{Reply}
 use Rattle.layout.specs.declared.Reply.the-variants as reply
 use Rattle.copies.specs.Admission.{admission}
-use Rattle.copies.specs.Copies.{copyBlock, paperFound}
+use Rattle.copies.specs.Copies.{copyBlock, paperCopy}
 use Rattle.copies.specs.declared.Found.{Found}
 use Rattle.copies.specs.declared.Found.the-variants as found
 use Rattle.copies.proofs.Admits.{Works}
@@ -35,7 +34,7 @@ module _ (l : List ℕ) (y : Bytes l) (d s : ℕ) (v : Verdict) (e : Edit) where
   pub refused-read : (r : Refusal) → v ≡ Refused r → paperVerdict v ≡ admission l d (inRange (editing e)) s → paperReply (reply.Refused r) ≡ onBytes l (on d s (editing e)) .0
   refused-read r is says = refused-does l y d s v (editing e) r is says .answer
 
-  pub absent-read : (t : Bool) → v ≡ Accepted → paperVerdict v ≡ admission l d t s → (f : Found) → paperFound f ≡ copyBlock l d s → inRange (editing e) ≡ true
+  pub absent-read : (t : Bool) → v ≡ Accepted → paperVerdict v ≡ admission l d t s → (f : Found) → paperCopy f ≡ copyBlock l d s → inRange (editing e) ≡ true
       → f ≡ found.NotTaken → (a : Reply) → a ≡ reply.Refused (refusalFor notTaken 0) → paperReply a ≡ onBytes l (on d s (editing e)) .0
   absent-read t is says f is-at r none a answers = absent-does l y d s v t is says f is-at e r none a answers .answer
 

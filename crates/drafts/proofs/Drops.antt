@@ -8,8 +8,7 @@ use borrow.Author.Tests.{not-true, not-false}
 use Rattle.laws.proofs.Tests.{by-order, apart}
 use Rattle.refusal.specs.Numbers.{noDraft}
 use Rattle.refusal.specs.Answer.{refusalFor}
-use Rattle.blocks.specs.Block.{bookLength}
-use Rattle.blocks.proofs.Numbers.{Bytes}
+use Rattle.blocks.specs.Block.{bookLength, Bytes}
 use Rattle.steps.specs.Book.{Draft, closed, working, Book, put, draftAt}
 use Rattle.steps.specs.Calls.{drop, done, withDrafts}
 use Rattle.steps.proofs.Order.{drop-closed, drop-open}

@@ -12,8 +12,7 @@ use Rattle.laws.proofs.Tests.{apart}
 use Rattle.refusal.specs.Numbers.{wrongLength, notSound, allOpen}
 use Rattle.refusal.specs.Answer.{refusalFor}
 use Rattle.codes.specs.Places.{upward}
-use Rattle.blocks.specs.Block.{bookLength}
-use Rattle.blocks.proofs.Numbers.{Bytes}
+use Rattle.blocks.specs.Block.{bookLength, Bytes}
 use Rattle.steps.specs.Book.{Draft, closed, working, Book, orClosed, put, draftAt}
 use Rattle.steps.specs.Calls.{Call, opening, draft, lowest, withDrafts}
 use Rattle.steps.proofs.Order as order

@@ -13,8 +13,7 @@ use Rattle.refusal.specs.Answer.{no, refusalFor, paperVerdict}
 use Rattle.refusal.specs.declared.Verdict.{Verdict}
 use Rattle.refusal.specs.declared.Verdict.the-variants.{Accepted}
 use Rattle.codes.specs.Block.{Content}
-use Rattle.blocks.specs.Block.{bookLength}
-use Rattle.blocks.proofs.Numbers.{Bytes}
+use Rattle.blocks.specs.Block.{bookLength, Bytes}
 use Rattle.steps.specs.Book.{Copy, Draft, working, Book, at, put, draftAt}
 use Rattle.steps.specs.Calls.{on, taking, done, has, withDrafts, bookRule}
 use Rattle.steps.proofs.Order.{on-again, on-full, on-taken}
@@ -30,7 +29,7 @@ use Rattle.layout.proofs.Rules.{does-step, does-refused}
 use Rattle.layout.proofs.Said.{draft-of, segment-past, copies-none, copies-one, copies-two}
 use Rattle.layout.proofs.Shown.{draft-copies}
 use Rattle.copies.specs.Admission.{exists, admission}
-use Rattle.copies.specs.Copies.{indexOf, blockIn, copyBlock, paperFound, Admitted}
+use Rattle.copies.specs.Copies.{indexOf, blockIn, copyBlock, paperCopy, Admitted}
 use Rattle.copies.specs.declared.Found.{Found}
 use Rattle.copies.specs.declared.Found.the-variants as found
 use Rattle.copies.proofs.Copies.{index-some, index-none}
@@ -133,7 +132,7 @@ block-none d none e = refl
 block-none d (some n) e = apart cc
 
 module _ (l : List ℕ) (y : Bytes l) (d s : ℕ) (v : Verdict) (is : v ≡ Accepted) (says : paperVerdict v ≡ admission l d true s)
-    (f : Found) (is-at : paperFound f ≡ copyBlock l d s) where
+    (f : Found) (is-at : paperCopy f ≡ copyBlock l d s) where
   a : Admitted l d s
   a = take-admitted l d s v is says
 
@@ -146,20 +145,20 @@ module _ (l : List ℕ) (y : Bytes l) (d s : ℕ) (v : Verdict) (is : v ≡ Acce
   c : (c : Content) × (at (bookOf l .segments) s ≡ some c)
   c = some-of (at (bookOf l .segments) s) (a .there)
 
-  sought : paperFound f ≡ blockIn d (indexOf s (o .ks))
+  sought : paperCopy f ≡ blockIn d (indexOf s (o .ks))
   unfolding copyBlock
   sought = is-at ∙ ap (λ (x : Draft). blockIn d (indexOf s (copiesOf x))) (o .there)
 
   -- 17
   pub take-again : (k : ℕ) (r : Reply) → f ≡ found.Copy k → r ≡ reply.Refused (refusalFor takenAlready 0) → Does l l (on d s taking) r
   take-again k r q e =
-      let b = block-some d k (indexOf s (o .ks)) (sym sought ∙ ap paperFound q) in
+      let b = block-some d k (indexOf s (o .ks)) (sym sought ∙ ap paperCopy q) in
       let i = index-some s (o .ks) (b .0) (b .1) in
       subst (Does l l (on d s taking)) (sym e) (copy-there l base (a .long) d s o (c .0) (c .1) (i .named))
 
   module _ (q : f ≡ found.NotTaken) (n : ℕ) (is-n : n ≡ length (copiesOf (draftAt (bookOf l .drafts) d))) where
     absent : has s (o .ks) ≡ false
-    absent = copy-none s (o .ks) (index-none s (o .ks) (block-none d (indexOf s (o .ks)) (sym sought ∙ ap paperFound q)))
+    absent = copy-none s (o .ks) (index-none s (o .ks) (block-none d (indexOf s (o .ks)) (sym sought ∙ ap paperCopy q)))
 
     count : n ≡ length (o .ks)
     count = is-n ∙ ap (λ (x : Draft). length (copiesOf x)) (o .there)

@@ -24,11 +24,10 @@ use Rattle.calendar.specs.declared.Moment.the-variants as moment
 use Rattle.calendar.proofs.Laws.{purge-low}
 use Rattle.codes.specs.Block.{Content, insert}
 use Rattle.codes.specs.Places.{capacity, placesEnd, ascends}
-use Rattle.blocks.specs.Block.{numberAt, blockOf, putBlock}
+use Rattle.blocks.specs.Block.{numberAt, blockOf, putBlock, Bytes}
 use Rattle.blocks.specs.Content.{holding, contentOf}
 use Rattle.blocks.specs.Held.{heldContent, Fits}
 use Rattle.blocks.specs.declared.Held.{Held}
-use Rattle.blocks.proofs.Numbers.{Bytes}
 use Rattle.steps.specs.Calls.{Edit, add, remove, setPurge, editing, on, BookAnswer, was, settle, inRange, member, without}
 use Rattle.steps.proofs.Order as order
 use Rattle.steps.proofs.Order.{add-there, remove-absent, remove-there, purge-given}
@@ -37,7 +36,7 @@ use Rattle.layout.specs.Rule.{paperReply, Does}
 use Rattle.layout.specs.declared.Reply.{Reply}
 use Rattle.layout.specs.declared.Reply.the-variants as reply
 use Rattle.copies.specs.Admission.{admission}
-use Rattle.copies.specs.Copies.{copyBlock, paperFound}
+use Rattle.copies.specs.Copies.{copyBlock, paperCopy}
 use Rattle.copies.specs.declared.Found.{Found}
 use Rattle.copies.specs.declared.Found.the-variants as found
 use Rattle.copies.proofs.Admits.{Works}
@@ -59,7 +58,7 @@ module _ (l : List ℕ) (y : Bytes l) (d s : ℕ) (v : Verdict) (t : Bool) (says
     pub in-range : inRange (editing e) ≡ true
     in-range = sym tests ∙ ranging l d s v t is says
 
-    pub tested-absent : (f : Found) → paperFound f ≡ copyBlock l d s → f ≡ found.NotTaken → (a : Reply) → a ≡ reply.Refused (refusalFor notTaken 0)
+    pub tested-absent : (f : Found) → paperCopy f ≡ copyBlock l d s → f ≡ found.NotTaken → (a : Reply) → a ≡ reply.Refused (refusalFor notTaken 0)
         → Does l l (on d s (editing e)) a
     tested-absent f is-at q a answers = absent-does l y d s v t is says f is-at e in-range q a answers
 

@@ -27,7 +27,7 @@ use Rattle.layout.proofs.ForthParts.{blank}
 use Rattle.layout.proofs.ForthLies.{lies-draft, lies-segment, lies-copy}
 use Rattle.history.specs.declared.Found.{Found}
 use Rattle.history.specs.declared.Found.the-variants as found
-use Rattle.history.specs.Changing.{Placing, Placings, Placed, differing, picked, changesIn, Stands, FindsOne, FindsTwo, Finds}
+use Rattle.history.specs.Changing.{Placing, Placings, AllPlaced, differing, picked, changesIn, Stands, FindsOne, FindsTwo, Finds}
 
 -- ---- the test of contents
 same-self : (c : Content) → sameContent (some c) c ≡ true
@@ -241,7 +241,7 @@ placing l s k eight low high e =
       high = high;
     }
 
-pub changes-placed : (l : List ℕ) (d : ℕ) → 1 ≤ d → d ≤ 4 → getD l (5 + 4 * d) 0 ≤ 8 → getD l (6 + 4 * d) 0 ≤ 8 → Placed 17 (changesIn l d)
+pub changes-placed : (l : List ℕ) (d : ℕ) → 1 ≤ d → d ≤ 4 → getD l (5 + 4 * d) 0 ≤ 8 → getD l (6 + 4 * d) 0 ≤ 8 → AllPlaced 17 (changesIn l d)
 unfolding changesIn
 changes-placed l d one four first second =
     let x : ℕ = getD l (5 + 4 * d) 0 in

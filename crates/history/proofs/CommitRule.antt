@@ -10,8 +10,7 @@ use lib.Dec.{eqb}
 use borrow.Author.Tests.{eq-eqb, ne-eqb}
 use Rattle.laws.proofs.Tests.{impossible}
 use Rattle.laws.proofs.Lookups.{get-none}
-use Rattle.blocks.specs.Block.{bookLength}
-use Rattle.blocks.proofs.Numbers.{Bytes}
+use Rattle.blocks.specs.Block.{bookLength, Bytes}
 use Rattle.steps.specs.Book.{Copy, Draft, closed, working, Book, orClosed, draftAt}
 use Rattle.refusal.specs.Answer.{ok}
 use Rattle.steps.specs.Calls.{commit, changed, changes, segmentsNamed, committed}
@@ -33,7 +32,7 @@ use Rattle.layout.proofs.SoundBack.{sound-book}
 use Rattle.layout.proofs.Rules.{does-short, does-unsound, does-refused, does-step}
 use Rattle.keeping.proofs.Parts.{draft-is}
 use Rattle.history.specs.declared.Found.{Found}
-use Rattle.history.specs.Changing.{Placed, changesIn, Finds, Leaves}
+use Rattle.history.specs.Changing.{AllPlaced, changesIn, Finds, Leaves}
 use Rattle.history.proofs.CommitFound.{finds-copies, changes-placed}
 
 -- a refusal as the code gives it
@@ -97,8 +96,8 @@ second-low l d e h g = second-most (bytes-say l e d h g) (sound-parts l e .eight
 pub steps-low : (l : List ℕ) → isSound l ≡ true → getD l 24 0 ≤ 16
 steps-low l e = sound-parts l e .sixteen
 
-pub found-placed : (l : List ℕ) (d : ℕ) (f : Found) → isSound l ≡ true → 1 ≤ d → d ≤ 4 → f ≡ changesIn l d → Placed 17 f
-found-placed l d f e h g q = subst (Placed 17) (sym q) (changes-placed l d h g (first-low l d e h g) (second-low l d e h g))
+pub found-placed : (l : List ℕ) (d : ℕ) (f : Found) → isSound l ≡ true → 1 ≤ d → d ≤ 4 → f ≡ changesIn l d → AllPlaced 17 f
+found-placed l d f e h g q = subst (AllPlaced 17) (sym q) (changes-placed l d h g (first-low l d e h g) (second-low l d e h g))
 
 -- the copies of an open draft
 copiesIn : List ℕ → ℕ → List Copy

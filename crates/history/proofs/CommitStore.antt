@@ -11,13 +11,13 @@ use Rattle.steps.specs.Calls.{withDrafts, oldOf, remember}
 use Rattle.layout.specs.Layout.{bytesOf, partOf, heldIn}
 use Rattle.layout.specs.Sound.{Sound}
 use Rattle.layout.specs.Lies.{Lies}
-use Rattle.layout.specs.Rule.{segmentsOf}
+use Rattle.layout.specs.Rule.{segmentsSaid}
 use Rattle.layout.specs.declared.Changed.{Changed}
 use Rattle.moves.specs.Named.{Among}
 use Rattle.moves.specs.Undo.{withHistory}
 use Rattle.moves.proofs.StepsForgot.{Pushes}
 use Rattle.moves.proofs.StepsLies.{parts-low}
-use Rattle.history.specs.Changing.{changedOf, Placing, Placings, Placed, Stands, Finds, replaced, Leaves}
+use Rattle.history.specs.Changing.{changedOf, Placing, Placings, AllPlaced, Stands, Finds, replaced, Leaves}
 use Rattle.history.specs.declared.Found.{Found}
 use Rattle.history.specs.declared.Found.the-variants as found
 use Rattle.history.proofs.Stores.{Replaces, finds-numbers, finds-among}
@@ -58,11 +58,11 @@ pub finish-done : (l l1 m : List ℕ) (d : ℕ) → Closes l l1 d → Seals l1 m
 finish-done l l1 m d p q b lies = q (withDrafts b (put (b .drafts) d closed)) (p b lies)
 
 -- ---- the whole commit
-pub commit-found-done : (l l1 l2 m : List ℕ) (d : ℕ) (f : Found) (c : Changed) → c ≡ changedOf f → Placed 17 f → Pushes l l1 c → Replaces l1 l2 f → Finishes l2 m d
+pub commit-found-done : (l l1 l2 m : List ℕ) (d : ℕ) (f : Found) (c : Changed) → c ≡ changedOf f → AllPlaced 17 f → Pushes l l1 c → Replaces l1 l2 f → Finishes l2 m d
     → (b : Book) → Lies l b → Sound b → (cs : List Copy) → Finds b f cs → Leaves c m b d cs
 commit-found-done l l1 l2 m d f c says placed p q r b lies sound cs finds =
     let h : History = remember (map (oldOf (b .segments)) cs) (b .history) in
-    let named = finds-numbers b f cs finds ∙ sym (ap segmentsOf says) in
+    let named = finds-numbers b f cs finds ∙ sym (ap segmentsSaid says) in
     let lies1 : Lies l1 (withHistory b h) = p b lies cs named (subst (Among (length (b .segments))) (sym says) (finds-among b f cs finds)) in
     record {
       says = sym named;

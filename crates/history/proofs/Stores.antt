@@ -6,7 +6,7 @@ use Prim.Native.Nat.{ℕ, zero, suc, _≤_}
 use native.Mathlib.Omega.{arith}
 use lib.ListN.{length}
 use Rattle.laws.proofs.Tests.{impossible}
-use Rattle.laws.proofs.Lists.{All, all-nil, all-cons}
+use Rattle.laws.specs.Lists.{All, all-nil, all-cons}
 use Rattle.codes.specs.Block.{Content}
 use Rattle.blocks.specs.Block.{blockCount}
 use Rattle.steps.specs.Book.{Copy, Book, put}
@@ -14,14 +14,14 @@ use Rattle.steps.specs.Calls.{stored, segmentsNamed}
 use Rattle.layout.specs.Layout.{partOf, heldIn}
 use Rattle.layout.specs.Sound.{FineDraft}
 use Rattle.layout.specs.Lies.{Lies}
-use Rattle.layout.specs.Rule.{segmentsOf}
+use Rattle.layout.specs.Rule.{segmentsSaid}
 use Rattle.layout.specs.declared.Changed.{Changed}
 use Rattle.keeping.proofs.Parts.{put-length}
 use Rattle.moves.specs.Named.{Among}
 use Rattle.moves.specs.Undo.{withSegments}
 use Rattle.moves.proofs.DraftsStale.{Marks}
 use Rattle.moves.proofs.StepsLies.{parts-high}
-use Rattle.history.specs.Changing.{changedOf, Placing, Placings, Placed, FindsOne, FindsTwo, Finds, replaced}
+use Rattle.history.specs.Changing.{changedOf, Placing, Placings, AllPlaced, FindsOne, FindsTwo, Finds, replaced}
 use Rattle.history.specs.declared.Found.{Found}
 use Rattle.history.specs.declared.Found.the-variants as found
 
@@ -36,7 +36,7 @@ abbrev pub Replaces : List ℕ → List ℕ → Found → Type 0
 Replaces l m f = (b : Book) → Lies l b → (issue n : ℕ) → All (FineDraft issue n) (b .drafts) → (cs : List Copy) → Finds b f cs → Lies m (replaced b cs)
 
 -- ---- the segments that were found
-module _ (f : Found) (p : Placed blockCount f) where
+module _ (f : Found) (p : AllPlaced blockCount f) where
   module _ (s from : ℕ) (is : f ≡ found.One s from) where
     pub one-placing : Placing blockCount s from
     one-placing = subst (Placings blockCount) is (p .each)
@@ -55,7 +55,7 @@ module _ (f : Found) (p : Placed blockCount f) where
 wider : {s from : ℕ} → Placing 17 s from → Placing blockCount s from
 wider p = let h = p .high in record { one = p .one; eight = p .eight; low = p .low; high = omega arith }
 
-pub placed-wider : (f : Found) → Placed 17 f → Placed blockCount f
+pub placed-wider : (f : Found) → AllPlaced 17 f → AllPlaced blockCount f
 placed-wider f p = record { each = each f (p .each) }
   where
     each : (f : Found) → Placings 17 f → Placings blockCount f
@@ -63,16 +63,16 @@ placed-wider f p = record { each = each f (p .each) }
     each (found.One s from) p = wider p
     each (found.Two s from t other) p = (wider (p .0), wider (p .1))
 
-pub placed-among : (end : ℕ) (f : Found) (c : Changed) → c ≡ changedOf f → Placed end f → Among 8 c
-placed-among end f c says p = record { each = subst (λ (d : Changed). All (λ (s : ℕ). (1 ≤ s) × (s ≤ 8)) (segmentsOf d)) (sym says) (each f (p .each)) }
+pub placed-among : (end : ℕ) (f : Found) (c : Changed) → c ≡ changedOf f → AllPlaced end f → Among 8 c
+placed-among end f c says p = record { each = subst (λ (d : Changed). All (λ (s : ℕ). (1 ≤ s) × (s ≤ 8)) (segmentsSaid d)) (sym says) (each f (p .each)) }
   where
-    each : (f : Found) → Placings end f → All (λ (s : ℕ). (1 ≤ s) × (s ≤ 8)) (segmentsOf (changedOf f))
+    each : (f : Found) → Placings end f → All (λ (s : ℕ). (1 ≤ s) × (s ≤ 8)) (segmentsSaid (changedOf f))
     each found.Nothing p = all-nil
     each (found.One s from) p = all-cons (p .one, p .eight) all-nil
     each (found.Two s from t other) p = all-cons (p .0 .one, p .0 .eight) (all-cons (p .1 .one, p .1 .eight) all-nil)
 
 module _ (b : Book) where
-  pub finds-numbers : (f : Found) (cs : List Copy) → Finds b f cs → segmentsNamed cs ≡ segmentsOf (changedOf f)
+  pub finds-numbers : (f : Found) (cs : List Copy) → Finds b f cs → segmentsNamed cs ≡ segmentsSaid (changedOf f)
   finds-numbers found.Nothing cs e = ap segmentsNamed e
   finds-numbers (found.One s from) cs e = ap segmentsNamed (e .are)
   finds-numbers (found.Two s from t other) cs e = ap segmentsNamed (e .are)
@@ -115,4 +115,4 @@ put-two l l1 m f s from t other is low puts puts2 b lies cs finds =
 -- drafts that took one of the segments turn stale
 pub replace-done : (l l1 m : List ℕ) (f : Found) (c : Changed) → c ≡ changedOf f → Stores l l1 f → Marks l1 m c → Replaces l m f
 replace-done l l1 m f c says puts marks b lies issue n fine cs finds =
-    marks (withSegments b (stored cs (b .segments))) (puts b lies cs finds) issue n fine cs (finds-numbers b f cs finds ∙ sym (ap segmentsOf says))
+    marks (withSegments b (stored cs (b .segments))) (puts b lies cs finds) issue n fine cs (finds-numbers b f cs finds ∙ sym (ap segmentsSaid says))

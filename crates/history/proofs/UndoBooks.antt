@@ -7,8 +7,7 @@ use native.Mathlib.Omega.{arith}
 use lib.ListN.{length, getD}
 use Rattle.refusal.specs.Numbers.{noStep}
 use Rattle.refusal.specs.Answer.{ok, refused}
-use Rattle.blocks.specs.Block.{bookLength}
-use Rattle.blocks.proofs.Numbers.{Bytes}
+use Rattle.blocks.specs.Block.{bookLength, Bytes}
 use Rattle.steps.specs.Book.{Copy, Book}
 use Rattle.steps.specs.Calls.{changed, newest, older, undone, undo, segmentsNamed}
 use Rattle.steps.proofs.Order as order
@@ -16,7 +15,7 @@ use Rattle.steps.proofs.Order.{undo-newest}
 use Rattle.layout.specs.Layout.{stepOf, bytesOf, bookOf}
 use Rattle.layout.specs.Tests.{isSound}
 use Rattle.layout.specs.Lies.{Lies}
-use Rattle.layout.specs.Rule.{segmentsOf, Does, paperReply}
+use Rattle.layout.specs.Rule.{segmentsSaid, Does, paperReply}
 use Rattle.layout.specs.declared.Changed.{Changed}
 use Rattle.layout.specs.declared.Reply.{Reply}
 use Rattle.layout.specs.declared.Reply.the-variants as reply
@@ -61,7 +60,7 @@ module _ (l : List ℕ) (r : ℕ) (y : Bytes l) (s : LastStep l r) (f : Found) (
   pub step-gone : (m m1 m2 : List ℕ) (c : Changed) → Replaces l m f → Pops m m1 → Seals m1 m2 → c ≡ changedOf f → PutsBack c m2 book cs
   step-gone m m1 m2 c puts pops seals says =
       record {
-        says = ap segmentsOf says ∙ sym (finds-numbers book f cs finds);
+        says = ap segmentsSaid says ∙ sym (finds-numbers book f cs finds);
         left = seals (undone book cs) (pops (replaced book cs) (back-put m puts) (omega (arith, step-count l r s)));
       }
 

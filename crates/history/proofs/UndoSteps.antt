@@ -18,7 +18,7 @@ use Rattle.layout.proofs.Says.{StepSays, single, pair}
 use Rattle.layout.proofs.Parts.{Parts, sound-parts, step-cases}
 use Rattle.layout.proofs.Said.{copyAt, copies-one, copies-two, segments-length, steps-length, step-of}
 use Rattle.layout.proofs.Stands.{part-before}
-use Rattle.history.specs.Changing.{Placing, Placings, Placed, stepIn, Stands, Finds}
+use Rattle.history.specs.Changing.{Placing, Placings, AllPlaced, stepIn, Stands, Finds}
 use Rattle.history.specs.LastStep.{LastStep}
 use Rattle.history.specs.declared.Found.{Found}
 use Rattle.history.specs.declared.Found.the-variants as found
@@ -145,7 +145,7 @@ module _ (l : List ℕ) (r : ℕ) (s : LastStep l r) where
         are = step-two h;
       })
 
-  pub step-placed : Placed blockCount (stepIn l r)
+  pub step-placed : AllPlaced blockCount (stepIn l r)
   step-placed =
       let parts : Parts l = sound-parts l (s .sound) in
       let put-first : Placing blockCount (first l r) (17 + 2 * r) = record {

@@ -10,8 +10,8 @@ use Rattle.codes.specs.Block.{Content}
 use Rattle.blocks.specs.Block.{blockOf, sameList}
 use Rattle.steps.specs.Book.{Copy, Book}
 use Rattle.steps.specs.Calls.{staled, stored, segmentsNamed, committed, undone}
-use Rattle.layout.specs.Layout.{bytesOf, partOf, heldIn}
-use Rattle.layout.specs.Rule.{segmentsOf}
+use Rattle.layout.specs.Layout.{firstTaken, secondTaken, firstBefore, secondBefore, bytesOf, partOf, heldIn}
+use Rattle.layout.specs.Rule.{segmentsSaid}
 use Rattle.layout.specs.declared.Changed.{Changed}
 use Rattle.layout.specs.declared.Changed.the-variants.{Nothing, One, Two}
 use Rattle.history.specs.declared.Found.{Found}
@@ -35,7 +35,7 @@ Placings end found.Nothing = Unit
 Placings end (found.One s from) = Placing end s from
 Placings end (found.Two s from t other) = Placing end s from × Placing end t other
 
-pub record Placed (end : ℕ) (f : Found) : Type 0 where
+pub record AllPlaced (end : ℕ) (f : Found) : Type 0 where
   pub each : Placings end f
 
 -- ---- in bytes
@@ -53,14 +53,14 @@ picked false false x i y j = found.Nothing
 -- of draft d
 unfoldable pub changesIn : List ℕ → ℕ → Found
 changesIn l d =
-    picked (differing l (getD l (5 + 4 * d) 0) (7 + 2 * d)) (differing l (getD l (6 + 4 * d) 0) (8 + 2 * d))
-    (getD l (5 + 4 * d) 0) (7 + 2 * d) (getD l (6 + 4 * d) 0) (8 + 2 * d)
+    picked (differing l (getD l (5 + 4 * d) 0) (firstTaken d)) (differing l (getD l (6 + 4 * d) 0) (secondTaken d))
+    (getD l (5 + 4 * d) 0) (firstTaken d) (getD l (6 + 4 * d) 0) (secondTaken d)
 
 -- of step r, counted from 0; byte 0 names no second segment
 unfoldable pub stepIn : List ℕ → ℕ → Found
 stepIn l r =
-    cond (eqb (getD l (33 + 2 * r) 0) 0) (found.One (getD l (32 + 2 * r) 0) (17 + 2 * r))
-    (found.Two (getD l (32 + 2 * r) 0) (17 + 2 * r) (getD l (33 + 2 * r) 0) (18 + 2 * r))
+    cond (eqb (getD l (33 + 2 * r) 0) 0) (found.One (getD l (32 + 2 * r) 0) (firstBefore r))
+    (found.Two (getD l (32 + 2 * r) 0) (firstBefore r) (getD l (33 + 2 * r) 0) (secondBefore r))
 
 -- ---- in books
 abbrev pub copy : ℕ → Content → Copy
@@ -96,10 +96,10 @@ replaced b cs = record { issue = b .issue; segments = stored cs (b .segments); d
 
 -- what a commit answers and leaves
 pub record Leaves (r : Changed) (l : List ℕ) (b : Book) (d : ℕ) (cs : List Copy) : Type 0 where
-  pub says : segmentsOf r ≡ segmentsNamed cs
+  pub says : segmentsSaid r ≡ segmentsNamed cs
   pub left : l ≡ bytesOf (committed b d cs)
 
 -- what an undo answers and leaves
 pub record PutsBack (r : Changed) (l : List ℕ) (b : Book) (cs : List Copy) : Type 0 where
-  pub says : segmentsOf r ≡ segmentsNamed cs
+  pub says : segmentsSaid r ≡ segmentsNamed cs
   pub left : l ≡ bytesOf (undone b cs)

@@ -4,7 +4,7 @@ ghost use mathlib.Core.Bool.{true};
 ghost use mathlib.Core.List.{List};
 ghost use Prim.Native.Nat.{ℕ, _+_, _*_, _≤_, _<_};
 ghost use lib.ListN.{length, getD};
-ghost use Rattle.laws.proofs.Lists.{All};
+ghost use Rattle.laws.specs.Lists.{All};
 ghost use Rattle.blocks.specs.Block.{blockCount, bookLength};
 ghost use Rattle.steps.specs.Book.{Copy, closed, Book, put};
 ghost use Rattle.steps.specs.Calls.{withDrafts, stepsMost, stored};
@@ -13,7 +13,7 @@ ghost use Rattle.layout.specs.Sound.{FineDraft, Sound};
 ghost use Rattle.layout.specs.Tests.{isSound};
 ghost use Rattle.layout.specs.Lies.{Lies};
 ghost use Rattle.layout.specs.Rule.{Does};
-ghost use Rattle.history.specs.Changing.{changedOf, Placed, differing, picked, changesIn, stepIn, Finds, replaced, Leaves, PutsBack};
+ghost use Rattle.history.specs.Changing.{changedOf, AllPlaced, differing, picked, changesIn, stepIn, Finds, replaced, Leaves, PutsBack};
 ghost use Rattle.moves.specs.Undo.{withSegments};
 ghost use Rattle.history.specs.LastStep.{LastStep};
 ghost use Rattle.steps.specs.Calls as calls;
@@ -41,7 +41,7 @@ fn segments(found: Found) -> Changed
 
 // The segments that were found hold what their blocks hold.
 fn put_blocks(book: &mut [u8], found: Found)
-    requires { ⌜ (length (now book) ≡ bookLength) × Placed blockCount found ⌝ }
+    requires { ⌜ (length (now book) ≡ bookLength) × AllPlaced blockCount found ⌝ }
     ensures { λ _. ⌜ ((b : Book) → Lies (now (book .entry)) b → (cs : List Copy) → Finds b found cs → Lies (now (book .exit)) (withSegments b (stored cs (b .segments)))) ⌝ }
 {
     match found {
@@ -58,7 +58,7 @@ fn put_blocks(book: &mut [u8], found: Found)
 
 // The same, and the drafts that took one of them turn stale.
 fn replace(book: &mut [u8], found: Found)
-    requires { ⌜ (length (now book) ≡ bookLength) × Placed blockCount found ⌝ }
+    requires { ⌜ (length (now book) ≡ bookLength) × AllPlaced blockCount found ⌝ }
     ensures { λ _. ⌜ ((b : Book) → Lies (now (book .entry)) b → (issue n : ℕ) → All (FineDraft issue n) (b .drafts) → (cs : List Copy) → Finds b found cs → Lies (now (book .exit)) (replaced b cs)) ⌝ }
 {
     put_blocks(book, found);
@@ -121,7 +121,7 @@ fn finish(book: &mut [u8], d: usize)
 
 // Commits draft d, which is open and not stale, with the changes that were found in it: a step only if there are any.
 fn commit_found(book: &mut [u8], d: usize, found: Found) -> Changed
-    requires { ⌜ (length (now book) ≡ bookLength) × (1 ≤ d) × (d ≤ 4) × (getD (now book) 24 0 ≤ stepsMost) × Placed 17 found ⌝ }
+    requires { ⌜ (length (now book) ≡ bookLength) × (1 ≤ d) × (d ≤ 4) × (getD (now book) 24 0 ≤ stepsMost) × AllPlaced 17 found ⌝ }
     ensures { λ r. ⌜ ((b : Book) → Lies (now (book .entry)) b → Sound b → (cs : List Copy) → Finds b found cs → Leaves r (now (book .exit)) b d cs) ⌝ }
 {
     let changed = segments(found);

@@ -7,8 +7,7 @@ use lib.ListN.{length}
 use lib.Dec.{eqb}
 use borrow.Author.Tests.{eqb-true, eqb-false}
 use Rattle.laws.proofs.Tests.{by, apart}
-use Rattle.blocks.specs.Block.{bookLength}
-use Rattle.blocks.proofs.Numbers.{Bytes}
+use Rattle.blocks.specs.Block.{bookLength, Bytes}
 use Rattle.steps.specs.Book.{Book}
 use Rattle.steps.specs.Calls.{Edit, readPurge, readCount, readPlace, add, remove, setPurge, editing, Call, on, Value, BookAnswer, bookRule}
 use Rattle.steps.proofs.Chains.{Told, told-ok, told-then, told-left}

@@ -9,7 +9,8 @@ use mathlib.Core.Option.{Option, none, some}
 use lib.ListN.{length, length-map, length-drop, length-take}
 use lib.Dec.{eqb, ltb}
 use borrow.Author.Tests.{ltb-true, ltb-false, eqb-false}
-use Rattle.laws.proofs.Lists.{All, all-nil, all-cons, all-append, all-map, all-found, all-take, all-drop, all-each}
+use Rattle.laws.proofs.Lists.{all-append, all-map, all-found, all-take, all-drop, all-each}
+use Rattle.laws.specs.Lists.{All, all-nil, all-cons}
 use Rattle.laws.proofs.Tests.{or-no, choose}
 use Rattle.codes.specs.Block.{Content}
 use Rattle.steps.specs.Book.{Copy, History, at}

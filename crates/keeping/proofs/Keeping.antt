@@ -7,7 +7,7 @@ use mathlib.Core.List.{List, [], map}
 use mathlib.Core.Option.{some}
 use lib.ListN.{length, length-map}
 use Rattle.laws.proofs.Tests.{apart}
-use Rattle.laws.proofs.Lists.{All, all-nil, all-cons}
+use Rattle.laws.specs.Lists.{All, all-nil, all-cons}
 use Rattle.laws.proofs.Lookups.{some-same}
 use Rattle.refusal.specs.Numbers.{noDraft, allOpen, noSuchSegment, staleDraft, noStep, outOfRange}
 use Rattle.codes.specs.Block.{Content}

@@ -6,7 +6,8 @@ use mathlib.Core.List.{List, [], _∷_}
 use mathlib.Core.Option.{some}
 use lib.ListN.{length, getElem?, length-set}
 use Rattle.laws.proofs.Tests.{apart}
-use Rattle.laws.proofs.Lists.{All, all-cons, all-set, all-found}
+use Rattle.laws.proofs.Lists.{all-set, all-found}
+use Rattle.laws.specs.Lists.{All, all-cons}
 use Rattle.laws.proofs.Lookups.{get-low}
 use Rattle.steps.specs.Book.{Draft, closed, at, put, orClosed, draftAt}
 

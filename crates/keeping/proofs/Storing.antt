@@ -7,7 +7,8 @@ use mathlib.Core.List.{List, [], _∷_, map}
 use lib.ListN.{length}
 use Rattle.steps.proofs.Agree.{touches-none}
 use Rattle.laws.proofs.Tests.{apart}
-use Rattle.laws.proofs.Lists.{All, all-nil, all-cons, all-each}
+use Rattle.laws.proofs.Lists.{all-each}
+use Rattle.laws.specs.Lists.{All, all-nil, all-cons}
 use Rattle.codes.specs.Block.{Content}
 use Rattle.steps.specs.Book.{Copy, Draft, closed, working}
 use Rattle.steps.specs.Calls.{touches, staled, stored}

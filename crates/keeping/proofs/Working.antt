@@ -11,7 +11,8 @@ use lib.Dec.{ltb, eqb}
 use borrow.Author.Tests.{ltb-true, eqb-false, ne-eqb, not-true}
 use Rattle.steps.proofs.Agree.{has-recopy}
 use Rattle.laws.proofs.Tests.{apart, either-way, or-no, choose}
-use Rattle.laws.proofs.Lists.{All, all-nil, all-cons, all-append}
+use Rattle.laws.proofs.Lists.{all-append}
+use Rattle.laws.specs.Lists.{All, all-nil, all-cons}
 use Rattle.laws.proofs.Lookups.{some-same}
 use Rattle.refusal.specs.Numbers.{notTaken, takenAlready, twoTaken}
 use Rattle.codes.specs.Block.{Content}

@@ -6,12 +6,9 @@ use mathlib.Core.Option.{some}
 use lib.ListN.{length, take, drop, getD, getElem?, set}
 use lib.Seq.{take-add, drop-at, length-take-le}
 use mathlib.Core.List.{List, [], _∷_, _++_, map, List·Memᴰ, List·Memᴰ·head, List·Memᴰ·tail}
+use Rattle.laws.specs.Lists.{All, all-nil, all-cons}
 use Rattle.laws.proofs.Tests.{apart}
 use Rattle.laws.proofs.Lookups.{some-same}
-
-pub data All {A : Type 0} (P : A → Type 0) : List A → Type 0 where
-  all-nil : All P []
-  all-cons : {x : A} {xs : List A} → P x → All P xs → All P (x ∷ xs)
 
 pub all-append : {A : Type 0} {P : A → Type 0} {l m : List A} → All P l → All P m → All P (l ++ m)
 all-append all-nil b = b

@@ -5,12 +5,8 @@ use mathlib.Core.Path.{_≡_}
 use mathlib.Core.Bool.{Bool, true, _&&_}
 use mathlib.Core.List.{List, [], _∷_}
 use lib.ListN.{length, getD}
+use Rattle.laws.specs.Lists.{every}
 use Rattle.laws.proofs.Tests.{impossible, and-left, and-right}
-
--- every entry passes the test
-unfoldable pub every : {A : Type 0} → (A → Bool) → List A → Bool
-every p [] = true
-every p (x ∷ xs) = p x && every p xs
 
 pub every-at : (p : ℕ → Bool) (xs : List ℕ) (d i : ℕ) → every p xs ≡ true → i < length xs → p (getD xs i d) ≡ true
 unfolding every

@@ -9,10 +9,9 @@ use native.Mathlib.Omega.{arith}
 use lib.ListN.{length, take, drop, getElem?}
 use lib.Seq.{take-add, drop-drop}
 use Rattle.laws.proofs.Tests.{impossible, and-left, and-right, by-order}
-use Rattle.laws.proofs.Lists.{All, all-nil, all-cons}
+use Rattle.laws.specs.Lists.{All, all-nil, all-cons, every}
 use Rattle.codes.specs.Places.{upward}
 use Rattle.blocks.specs.Block.{flat}
-use Rattle.laws.proofs.Tables.{every}
 
 module _ {A : Type 0} (f : ℕ → A) where
   -- how many there are

@@ -9,11 +9,13 @@ use lib.ListN.{length, getD, getElem?, List·getD-eq-default}
 use lib.Dec.{ltb}
 use borrow.Author.Tests.{lt-ltb, le-ltb}
 use Rattle.laws.proofs.Tests.{by-order}
-use Rattle.laws.proofs.Lists.{All, all-nil, all-cons, all-get}
+use Rattle.laws.proofs.Lists.{all-get}
+use Rattle.laws.specs.Lists.{All, all-nil, all-cons}
 use Rattle.laws.proofs.Lookups.{get-none, get-some}
 use Rattle.codes.specs.Block.{Content}
 use Rattle.blocks.specs.Block.{blockLength, checkOf, sealed}
-use Rattle.blocks.specs.Content.{holding, isUsed, isUnused}
+use Rattle.blocks.specs.Content.{holding}
+use Rattle.blocks.specs.Good.{isUsed, isUnused}
 use Rattle.blocks.proofs.Seals.{sealed-length, sealed-again}
 use Rattle.blocks.proofs.Contents.{used-length, unused-length, content-forth, unused-forth, sound-true}
 use Rattle.steps.specs.Book.{Copy, Draft, closed, Book}

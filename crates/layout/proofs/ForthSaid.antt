@@ -8,7 +8,7 @@ use native.Mathlib.Omega.{arith}
 use lib.ListN.{length, getD, getElem?}
 use lib.Dec.{eqb}
 use borrow.Author.Tests.{ne-eqb}
-use Rattle.laws.proofs.Lists.{All, all-nil, all-cons}
+use Rattle.laws.specs.Lists.{All, all-nil, all-cons}
 use Rattle.blocks.specs.Block.{blockOf}
 use Rattle.blocks.specs.Content.{holding, contentOf}
 use Rattle.blocks.proofs.Contents.{content-forth}

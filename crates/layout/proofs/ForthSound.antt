@@ -18,7 +18,7 @@ use Rattle.blocks.proofs.Forms.{slice-zero, sealed-checked}
 use Rattle.steps.specs.Book.{closed, Book}
 use Rattle.steps.specs.Calls.{stepsMost}
 use Rattle.layout.specs.Layout.{draftBytes, stepBytes, partOf, indexBytes, blockBytes, bytesOf}
-use Rattle.laws.proofs.Tables.{every}
+use Rattle.laws.specs.Lists.{every}
 use Rattle.layout.specs.Sound.{isIssue, Sound}
 use Rattle.layout.specs.Tests.{isDraftAt, isStepAt, isIndex, used, isGood, isSound}
 use Rattle.layout.proofs.Items.{every-upward}

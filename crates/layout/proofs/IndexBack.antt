@@ -7,9 +7,9 @@ use native.Mathlib.Omega.{arith}
 use lib.ListN.{length, take, drop, getD, replicate, length-drop}
 use lib.Seq.{getD-take, getD-drop, take-add, drop-drop, length-take-le}
 use Rattle.codes.specs.Places.{upward}
-use Rattle.blocks.specs.Block.{blockLength, bytes32, numberAt, flat, sealed, blockOf}
+use Rattle.blocks.specs.Block.{blockLength, bytes32, numberAt, flat, sealed, blockOf, Bytes}
 use Rattle.blocks.proofs.Blocks.{block-length}
-use Rattle.blocks.proofs.Numbers.{Bytes, bytes-block, first4, word-back}
+use Rattle.blocks.proofs.Numbers.{bytes-block, first4, word-back}
 use Rattle.blocks.proofs.Forms.{zero-in, zeros-ext, own-seal, sealed-form}
 use Rattle.layout.specs.Layout.{draftBytes, stepBytes, indexBytes, draftOf, stepOf, bookOf}
 use Rattle.layout.proofs.Counted.{flat-back}

@@ -6,7 +6,7 @@ use Prim.Native.Nat.{ℕ, zero, suc, _+_, _<_}
 use native.Mathlib.Omega.{arith}
 use lib.ListN.{length, getD}
 use Rattle.codes.specs.Places.{upward}
-use Rattle.laws.proofs.Tables.{every}
+use Rattle.laws.specs.Lists.{every}
 
 -- a list is the map of what stands at each number
 pub map-upward : {A : Type 0} (z : A) (f : ℕ → A) (p : ℕ) (xs : List A) → ((i : ℕ) → i < length xs → f (p + i) ≡ getD xs i z) → map f (upward p (length xs)) ≡ xs

@@ -5,7 +5,7 @@ use Prim.Native.Nat.{ℕ}
 use Rattle.laws.proofs.One.{answer-one, Same}
 use Rattle.refusal.specs.Answer.{ok, no}
 use Rattle.steps.specs.Calls.{Call, BookAnswer, draft, done, number, was, changed}
-use Rattle.layout.specs.Rule.{onBytes, segmentsOf, paperReply, Does}
+use Rattle.layout.specs.Rule.{onBytes, segmentsSaid, paperReply, Does}
 use Rattle.layout.specs.declared.Changed.{Changed}
 use Rattle.layout.specs.declared.Changed.the-variants.{Nothing, One, Two}
 use Rattle.layout.specs.declared.Reply.{Reply}
@@ -25,7 +25,7 @@ replyOf (ok (was there)) = reply.Was there
 replyOf (ok (changed segments)) = reply.Segments (changedOf segments)
 replyOf (no n place) = reply.Refused (record { number = n; place = place })
 
-changed-back : (c : Changed) → changedOf (segmentsOf c) ≡ c
+changed-back : (c : Changed) → changedOf (segmentsSaid c) ≡ c
 unfolding changedOf
 changed-back = elim [ Nothing ↦ refl | One a ↦ refl | Two a b ↦ refl ]
 

@@ -14,7 +14,7 @@ use Rattle.blocks.specs.Block.{bookLength, numberAt, allZero, checked, blockOf}
 use Rattle.blocks.proofs.Blocks.{byte-of}
 use Rattle.blocks.proofs.Forms.{zero-in}
 use Rattle.steps.specs.Calls.{stepsMost}
-use Rattle.laws.proofs.Tables.{every}
+use Rattle.laws.specs.Lists.{every}
 use Rattle.layout.specs.Sound.{isIssue}
 use Rattle.layout.specs.Tests.{isDraftAt, isStepAt, isIndex, isGood, isSound}
 use Rattle.layout.proofs.Counted.{every-up}

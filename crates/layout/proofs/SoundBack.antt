@@ -9,10 +9,9 @@ use lib.ListN.{getD}
 use lib.Dec.{ltb, eqb}
 use borrow.Author.Tests.{le-leb, lt-ltb, ne-eqb}
 use Rattle.laws.proofs.Tests.{apart}
-use Rattle.laws.proofs.Lists.{All, all-nil, all-cons}
-use Rattle.blocks.specs.Block.{numberAt, blockOf}
+use Rattle.laws.specs.Lists.{All, all-nil, all-cons}
+use Rattle.blocks.specs.Block.{numberAt, blockOf, Bytes}
 use Rattle.blocks.specs.Content.{contentOf, isContent}
-use Rattle.blocks.proofs.Numbers.{Bytes}
 use Rattle.steps.specs.Book.{Copy}
 use Rattle.steps.specs.Calls.{has}
 use Rattle.layout.specs.Layout.{copiesAt, draftOf, stepOf, bookOf}

@@ -7,7 +7,7 @@ use lib.ListN.{getD}
 use lib.Dec.{ltb, leb}
 use borrow.Author.Tests.{lt-ltb, le-ltb}
 use Rattle.laws.proofs.Tests.{by-order}
-use Rattle.layout.specs.Layout.{segment, copy, before, blockNumber, partOf}
+use Rattle.layout.specs.Layout.{segment, copy, before, blockNumber, firstTaken, secondTaken, firstBefore, secondBefore, partOf}
 use Rattle.layout.specs.Tests.{used}
 
 -- ---- halves
@@ -16,6 +16,13 @@ half m q r e h = omega arith
 
 odd : (m q r : ℕ) → m ≡ 2 * q + r → r < 2 → m % 2 ≡ r
 odd m q r e h = omega arith
+
+-- ---- the numbering, as the calls count drafts
+pub draft-blocks : (d : ℕ) → (firstTaken (suc d) ≡ blockNumber (copy d 0)) × (secondTaken (suc d) ≡ blockNumber (copy d 1))
+draft-blocks d = (omega arith, omega arith)
+
+pub step-blocks : (s : ℕ) → (firstBefore s ≡ blockNumber (before s 0)) × (secondBefore s ≡ blockNumber (before s 1))
+step-blocks s = (omega arith, omega arith)
 
 -- ---- segments
 pub part-segment : (s : ℕ) → s < 8 → partOf (blockNumber (segment s)) ≡ segment s

@@ -12,9 +12,9 @@ use Rattle.calendar.specs.Calendar.{startOf, issueMonths}
 use Rattle.calendar.proofs.Laws.{start-year}
 use Rattle.codes.specs.Places.{upward}
 use Rattle.blocks.specs.Block.{numberAt, blockOf, bookLength}
-use Rattle.blocks.specs.Content.{isUsed, isUnused}
+use Rattle.blocks.specs.Good.{isUsed, isUnused}
 use Rattle.steps.specs.Calls.{stepsMost}
-use Rattle.laws.proofs.Tables.{every}
+use Rattle.laws.specs.Lists.{every}
 use Rattle.layout.specs.Sound.{isIssue}
 use Rattle.layout.specs.Tests.{isIndex, used, isGood, isSound}
 

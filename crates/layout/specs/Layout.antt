@@ -61,6 +61,19 @@ blockNumber (segment n) = suc n
 blockNumber (copy d n) = copiesFrom d + n
 blockNumber (before s n) = beforesFrom s + n
 
+-- The same two blocks of a draft that is counted from 1, as the calls count them, and of a step (layout/proofs/Stands: draft-blocks, step-blocks).
+abbrev pub firstTaken : ℕ → ℕ
+firstTaken d = 7 + 2 * d
+
+abbrev pub secondTaken : ℕ → ℕ
+secondTaken d = 8 + 2 * d
+
+abbrev pub firstBefore : ℕ → ℕ
+firstBefore s = 17 + 2 * s
+
+abbrev pub secondBefore : ℕ → ℕ
+secondBefore s = 18 + 2 * s
+
 -- the part that block k is for: the one of that number (layout/proofs/Stands: part-segment, part-copy, part-before)
 unfoldable pub partOf : ℕ → Part
 partOf k =

@@ -28,17 +28,17 @@ unfoldable pub onBytes : List ℕ → Call → BookAnswer × List ℕ
 onBytes l c = settle l (bytesRule l c)
 
 -- ---- the code's answers as this paper's
-abbrev pub segmentsOf : Changed → List ℕ
-segmentsOf Nothing = []
-segmentsOf (One a) = a ∷ []
-segmentsOf (Two a b) = a ∷ b ∷ []
+abbrev pub segmentsSaid : Changed → List ℕ
+segmentsSaid Nothing = []
+segmentsSaid (One a) = a ∷ []
+segmentsSaid (Two a b) = a ∷ b ∷ []
 
 abbrev pub paperReply : Reply → BookAnswer
 paperReply (reply.Draft d) = ok (draft d)
 paperReply reply.Done = ok done
 paperReply (reply.Number n) = ok (number n)
 paperReply (reply.Was there) = ok (was there)
-paperReply (reply.Segments c) = ok (changed (segmentsOf c))
+paperReply (reply.Segments c) = ok (changed (segmentsSaid c))
 paperReply (reply.Refused r) = paperRefusal r
 
 -- the promise of a call that changes a book: its answer, and every byte afterwards

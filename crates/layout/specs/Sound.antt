@@ -1,13 +1,14 @@
--- Document 01, "The book": "A book is sound if its length, every check and the form above hold, the issue's year is 1970..2099, there are 1..8 segments, place numbers are below 1,352,000,
--- a step's first segment is not 0, its segments exist, taken segments exist and differ, a second one needs a first, a closed draft is all zeros, a stale draft has taken something,
--- and every purge minute is what its DDHHMM gives under the issue." Clause by clause, of a book whose segments are counted by n.
+-- Document 01, "The book": "A book is sound if its length, every check and the form above hold, the issue's year is 1970..2099, there are 1..8 segments,
+-- place numbers are below 1,352,000, a step's first segment is not 0, its segments exist, taken segments exist and differ, a second one needs a first,
+-- a closed draft is all zeros, a stale draft has taken something, and every purge minute is what its DDHHMM gives under the issue."
+-- Clause by clause, of a book whose segments are counted by n.
 use Prim.Native.Nat.{ℕ, _≤_, _<_}
 use mathlib.Core.Path.{_≡_}
 use mathlib.Core.Bool.{Bool, true, false}
 use mathlib.Core.List.{List, [], _∷_}
 use lib.ListN.{length}
 use lib.Dec.{ltb}
-use Rattle.laws.proofs.Lists.{All}
+use Rattle.laws.specs.Lists.{All}
 use Rattle.calendar.specs.Calendar.{startOf, issueMonths}
 use Rattle.codes.specs.Block.{Content}
 use Rattle.blocks.specs.Content.{isContent}

@@ -5,10 +5,10 @@ use mathlib.Core.List.{List}
 use lib.ListN.{length, getD}
 use lib.Seq.{slice}
 use lib.Dec.{leb, ltb, eqb}
-use Rattle.laws.proofs.Tables.{every}
+use Rattle.laws.specs.Lists.{every}
 use Rattle.codes.specs.Places.{upward}
 use Rattle.blocks.specs.Block.{bookLength, numberAt, allZero, checked, blockOf}
-use Rattle.blocks.specs.Content.{isUsed, isUnused}
+use Rattle.blocks.specs.Good.{isUsed, isUnused}
 use Rattle.steps.specs.Calls.{stepsMost}
 use Rattle.layout.specs.Layout.{copiesFrom, beforesFrom}
 use Rattle.layout.specs.Sound.{isIssue}

@@ -9,7 +9,7 @@ ghost use Rattle.calendar.specs.Window.{WindowOf};
 ghost use Rattle.codes.specs.Places.{upward};
 ghost use Rattle.blocks.specs.Block.{blockLength, blockCount, bookLength, numberAt};
 ghost use Rattle.steps.specs.Calls.{stepsMost};
-ghost use Rattle.laws.proofs.Tables.{every};
+ghost use Rattle.laws.specs.Lists.{every};
 ghost use Rattle.layout.specs.Sound.{isIssue};
 ghost use Rattle.layout.specs.Tests.{isDraft, isStep, isDraftAt, isStepAt, isIndex, used, isGood, isSound};
 

@@ -14,7 +14,8 @@ use mir.Syntax.{w32, w64}
 use mir.Val.{Fits}
 use borrow.Author.Tests.{leb-true, eqb-true, eqb-false}
 use Rattle.laws.proofs.Tests.{apart, by}
-use Rattle.laws.proofs.Lists.{All, all-get}
+use Rattle.laws.proofs.Lists.{all-get}
+use Rattle.laws.specs.Lists.{All}
 use Rattle.laws.proofs.Lookups.{get-more, get-last}
 use Rattle.refusal.specs.Numbers.{tooManyPlaces}
 use Rattle.refusal.specs.Answer.{ok, refused}
@@ -23,7 +24,7 @@ use Rattle.calendar.proofs.Laws.{purge-low}
 use Rattle.codes.specs.Places.{capacity}
 use Rattle.codes.specs.Block as codes
 use Rattle.codes.specs.Block.{Read, counted, dated, contentIn, contentAt, readBlock, block, wrongAt}
-use Rattle.bulletin.specs.Seen.{segmentsIn, Sized}
+use Rattle.bulletin.specs.Seen.{segmentsHeld, Sized}
 use Rattle.bulletin.specs.declared.Segment.{Segment}
 use Rattle.bulletin.specs.declared.Segments.{Segments}
 use Rattle.blocks.specs.Block.{bookLength, blockLength, blockCount, blockOf, putBlock}
@@ -102,7 +103,7 @@ pub record Filling (kept : List ℕ) (held : List Segment) (count i : ℕ) (l : 
   pub storable : All Storable (take count held)
   pub filled : Filled (contentsFrom 0 kept (take i held)) l
 
-pub filling-start : (kept : List ℕ) (gs : Segments) (l : List ℕ) → Sized gs → All Storable (segmentsIn gs) → Filled [] l → Filling kept (gs .held) (gs .count) 0 l
+pub filling-start : (kept : List ℕ) (gs : Segments) (l : List ℕ) → Sized gs → All Storable (segmentsHeld gs) → Filled [] l → Filling kept (gs .held) (gs .count) 0 l
 unfolding contentsFrom
 filling-start kept gs l z a f = record { left = omega arith; sized = z; storable = a; filled = f }
 

@@ -7,7 +7,7 @@ use mathlib.Core.List.{List, [], _∷_}
 use mathlib.Core.Option.{Option}
 use lib.ListN.{length}
 use Rattle.laws.proofs.Tests.{by, apart}
-use Rattle.laws.proofs.Lists.{All, all-nil, all-cons}
+use Rattle.laws.specs.Lists.{All, all-nil, all-cons}
 use Rattle.refusal.specs.Answer.{Answer, ok, refused, must}
 use Rattle.lines.specs.Lines.{Line, linesOf, blank, isEnd, opens}
 use Rattle.codes.specs.Block.{Content, contentAt}

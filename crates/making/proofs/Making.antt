@@ -8,7 +8,8 @@ use mathlib.Core.Option.{some}
 use lib.ListN.{length, take, drop, getElem?, length-map}
 use lib.Seq.{length-take-le}
 use borrow.Author.Tests.{ne-eqb}
-use Rattle.laws.proofs.Lists.{All, all-each}
+use Rattle.laws.proofs.Lists.{all-each}
+use Rattle.laws.specs.Lists.{All}
 use Rattle.refusal.specs.Numbers.{wrongLength}
 use Rattle.refusal.specs.Answer.{Answer, ok, no, refused, refusalFor, andThen, paperVerdict}
 use Rattle.refusal.specs.declared.Refusal.{Refusal}
@@ -19,9 +20,9 @@ use Rattle.codes.specs.Block.{Content, contentAt}
 use Rattle.bulletin.specs.Segments as segments
 use Rattle.bulletin.specs.Bulletin as rule
 use Rattle.bulletin.specs.Bulletin.{readBulletin}
-use Rattle.bulletin.specs.Seen.{seen, segmentsIn, Sized}
+use Rattle.bulletin.specs.Seen.{seen, segmentsHeld, Sized}
 use Rattle.bulletin.specs.Report.{reported, reportOf, Reads}
-use Rattle.bulletin.specs.Kept.{keepEach, placesOf, keptOf, Keeps}
+use Rattle.bulletin.specs.Kept.{keepEach, placesOf, keptPlaces, KeepsPlaces}
 use Rattle.bulletin.specs.declared.Segment.{Segment}
 use Rattle.bulletin.specs.declared.Head.{Head}
 use Rattle.bulletin.specs.declared.Reading.the-variants as reading
@@ -79,7 +80,7 @@ module _ (l text : List ℕ) (year month : ℕ) where
   pub make-short : (length l ≡ bookLength → ⊥) → (r : Verdict) → r ≡ verdict.Refused (refusalFor wrongLength 0) → Makes l l text year month r
   make-short h r e = ruled l l text year month r (refused wrongLength 0) (rule-short l text year month h) (ap paperVerdict e) refl
 
-  module _ (b : Bulletin) (ks₀ ks : List ℕ) (kept : Keeps ks₀ ks text year month b) where
+  module _ (b : Bulletin) (ks₀ ks : List ℕ) (kept : KeepsPlaces ks₀ ks text year month b) where
     reads : Reads text year month b
     reads = kept .answer
 
@@ -94,17 +95,17 @@ module _ (l text : List ℕ) (year month : ℕ) where
           ruled l l text year month (verdict.Refused r) (no (r .number) (r .place)) (rule-long l text year month h (no (r .number) (r .place)) e) refl refl
 
     module _ (h : Head) (q : b .reading ≡ reading.Accepted h) where
-      read-ok : ok (reportOf h (segmentsIn (b .segments))) ≡ reported (readBulletin text year month)
+      read-ok : ok (reportOf h (segmentsHeld (b .segments))) ≡ reported (readBulletin text year month)
       read-ok = rw q at (reads .says)
 
-      told : Told text year month h (segmentsIn (b .segments))
-      told = told-by text year month h (segmentsIn (b .segments)) (readBulletin text year month) refl read-ok
+      told : Told text year month h (segmentsHeld (b .segments))
+      told = told-by text year month h (segmentsHeld (b .segments)) (readBulletin text year month) refl read-ok
 
       -- the issue has 32 bits
       pub make-issue : h .issue < 4294967296
       make-issue = let e = told .issue in omega (arith, issue-low (told .said .issue) (made-issue text year month (told .said) (told .read)))
 
-      pub make-storable : All Storable (segmentsIn (b .segments))
+      pub make-storable : All Storable (segmentsHeld (b .segments))
       make-storable = subst (All Storable) (sym (told .seen-are)) (storable text (told .said .issue) (told .said .segments) (contents-said text year month (told .said) (told .read)))
 
       module _ (z : Sized (b .segments)) where
@@ -114,14 +115,14 @@ module _ (l text : List ℕ) (year month : ℕ) where
             ∙ ap (λ (gs : List Segment). length gs) (sym (told .seen-are))
             ∙ length-take-le (b .segments .count) (b .segments .held) (omega (arith, z .long, z .few))
 
-        contents-are : length ks₀ ≡ 960 → contentsFrom 0 ks (segmentsIn (b .segments)) ≡ map contentOf (told .said .segments)
+        contents-are : length ks₀ ≡ 960 → contentsFrom 0 ks (segmentsHeld (b .segments)) ≡ map contentOf (told .said .segments)
         contents-are k =
             let few : length (told .said .segments) ≤ 8 = omega (arith, long, z .few) in
-            let f : ks ≡ keepEach placesOf 0 (told .said .segments) ks₀ = kept .left ∙ ap (λ (x : Answer rule.Bulletin). keptOf x ks₀) (told .read) in
+            let f : ks ≡ keepEach placesOf 0 (told .said .segments) ks₀ = kept .left ∙ ap (λ (x : Answer rule.Bulletin). keptPlaces x ks₀) (told .read) in
             ap₂ (λ (l : List ℕ) (gs : List Segment). contentsFrom 0 l gs) f (told .seen-are)
             ∙ contents-kept text (told .said .issue) (told .said .segments) (contents-said text year month (told .said) (told .read)) ks₀ few k
 
-        pub make-made : length l ≡ bookLength → length ks₀ ≡ 960 → (l₁ d : List ℕ) → Filled (contentsFrom 0 ks (segmentsIn (b .segments))) l₁ → Indexed l₁ (h .issue) (b .segments .count) d → Makes l d text year month verdict.Accepted
+        pub make-made : length l ≡ bookLength → length ks₀ ≡ 960 → (l₁ d : List ℕ) → Filled (contentsFrom 0 ks (segmentsHeld (b .segments))) l₁ → Indexed l₁ (h .issue) (b .segments .count) d → Makes l d text year month verdict.Accepted
         unfolding andThen
         make-made g k l₁ d f i =
             let cs : List Content = map contentOf (told .said .segments) in

@@ -8,7 +8,8 @@ use mathlib.Core.Option.{Option, none, some}
 use lib.ListN.{length, length-map}
 use borrow.Author.Tests.{lt-ltb}
 use Rattle.laws.proofs.Tests.{by, apart}
-use Rattle.laws.proofs.Lists.{All, all-nil, all-cons, all-map}
+use Rattle.laws.proofs.Lists.{all-map}
+use Rattle.laws.specs.Lists.{All, all-nil, all-cons}
 use Rattle.refusal.specs.Numbers.{Reason, wrongTime}
 use Rattle.refusal.specs.Answer.{ok, refused, must}
 use Rattle.calendar.specs.Calendar.{yearOf, monthOfYear, issueMonths, isIssueMonth, startOf, minuteOf, stampAfter, monthOf, dateIn, dateOf}

@@ -18,12 +18,11 @@ use Rattle.writing.proofs.Bound.{block-most}
 use Rattle.writing.specs.declared.Written.{Written}
 use Rattle.writing.specs.declared.Written.the-variants as written
 use Rattle.roundtrip.proofs.WriteRead.{write-read}
-use Rattle.blocks.specs.Block.{bookLength, blockOf}
+use Rattle.blocks.specs.Block.{bookLength, blockOf, Bytes}
 use Rattle.blocks.specs.Content.{contentOf}
 use Rattle.blocks.specs.Held.{heldContent}
 use Rattle.blocks.specs.declared.Held.{Held}
 use Rattle.blocks.proofs.Contents.{used-true}
-use Rattle.blocks.proofs.Numbers.{Bytes}
 use Rattle.steps.specs.Book.{Book, at}
 use Rattle.layout.specs.Layout.{bookOf}
 use Rattle.layout.specs.Tests.{used, isSound}

@@ -4,9 +4,9 @@ ghost use mathlib.Core.Bool.{true};
 ghost use mathlib.Core.List.{[]};
 ghost use Prim.Native.Nat.{_<_};
 ghost use lib.ListN.{length};
-ghost use Rattle.laws.proofs.Lists.{All};
+ghost use Rattle.laws.specs.Lists.{All};
 ghost use Rattle.blocks.specs.Block.{bookLength};
-ghost use Rattle.bulletin.specs.Seen.{segmentsIn, Sized};
+ghost use Rattle.bulletin.specs.Seen.{segmentsHeld, Sized};
 ghost use Rattle.layout.specs.Tests.{isSound};
 ghost use Rattle.making.specs.Fill.{contentsFrom, Filled, Storable, Indexed};
 ghost use Rattle.making.specs.Make.{Makes, WritesOn};
@@ -20,8 +20,8 @@ use writing::Written;
 fn fill(book: &mut [u8], kept: &[u32], segments: Segments)
     requires { ⌜ Filled [] (now book) ⌝ }
     requires { ⌜ length (now kept) ≡ 960 ⌝ }
-    requires { ⌜ Sized segments × All Storable (segmentsIn segments) ⌝ }
-    ensures { λ _. ⌜ Filled (contentsFrom 0 (now (kept .entry)) (segmentsIn segments)) (now (book .exit)) ⌝ }
+    requires { ⌜ Sized segments × All Storable (segmentsHeld segments) ⌝ }
+    ensures { λ _. ⌜ Filled (contentsFrom 0 (now (kept .entry)) (segmentsHeld segments)) (now (book .exit)) ⌝ }
 {
     let held = segments.held;
     let count = segments.count;

@@ -10,13 +10,14 @@ use lib.Dec.{eqb}
 use borrow.Author.Tests.{ne-eqb}
 use Rattle.steps.proofs.Agree.{touches-none}
 use Rattle.laws.proofs.Tests.{by, impossible, apart}
-use Rattle.laws.proofs.Lists.{All, all-nil, all-cons, all-map}
+use Rattle.laws.proofs.Lists.{all-map}
+use Rattle.laws.specs.Lists.{All, all-nil, all-cons}
 use Rattle.steps.specs.Book.{Copy, Draft, closed, working, Book}
 use Rattle.steps.specs.Calls.{has, touches, staled, segmentsNamed, withDrafts}
 use Rattle.layout.specs.Layout.{segmentOf, draftBytes, copiesOf}
 use Rattle.layout.specs.Sound.{FineDraft, working-fine}
 use Rattle.layout.specs.Lies.{Lies}
-use Rattle.layout.specs.Rule.{segmentsOf}
+use Rattle.layout.specs.Rule.{segmentsSaid}
 use Rattle.layout.specs.declared.Changed.{Changed}
 use Rattle.layout.specs.declared.Changed.the-variants.{Nothing, One, Two}
 use Rattle.moves.specs.Named.{TwoTaken, meets, marked}
@@ -131,18 +132,18 @@ MarksOne l m s = (b : Book) → Lies l b → All TwoTaken (b .drafts) → (k : C
 
 abbrev pub Marks : List ℕ → List ℕ → Changed → Type 0
 Marks l m c =
-    (b : Book) → Lies l b → (issue n : ℕ) → All (FineDraft issue n) (b .drafts) → (cs : List Copy) → segmentsNamed cs ≡ segmentsOf c
+    (b : Book) → Lies l b → (issue n : ℕ) → All (FineDraft issue n) (b .drafts) → (cs : List Copy) → segmentsNamed cs ≡ segmentsSaid c
     → Lies m (withDrafts b (map (staled cs) (b .drafts)))
 
 pub marked-none : (l : List ℕ) (c : Changed) → c ≡ Nothing → Marks l l c
-marked-none l c is b lies issue n fine cs are = none cs (are ∙ ap segmentsOf is)
+marked-none l c is b lies issue n fine cs are = none cs (are ∙ ap segmentsSaid is)
   where
     none : (cs : List Copy) → segmentsNamed cs ≡ [] → Lies l (withDrafts b (map (staled cs) (b .drafts)))
     none [] e = subst (λ (ds : List Draft). Lies l (withDrafts b ds)) (sym (staled-nothing (b .drafts))) lies
     none (k ∷ ks) e = apart cc
 
 pub marked-one : (l m : List ℕ) (c : Changed) (s : ℕ) → c ≡ One s → MarksOne l m s → Marks l m c
-marked-one l m c s is marks b lies issue n fine cs are = single cs (are ∙ ap segmentsOf is)
+marked-one l m c s is marks b lies issue n fine cs are = single cs (are ∙ ap segmentsSaid is)
   where
     single : (cs : List Copy) → segmentsNamed cs ≡ s ∷ [] → Lies m (withDrafts b (map (staled cs) (b .drafts)))
     single [] e = apart cc
@@ -150,7 +151,7 @@ marked-one l m c s is marks b lies issue n fine cs are = single cs (are ∙ ap s
     single (k ∷ q ∷ ks) e = apart cc
 
 pub marked-two : (l l1 m : List ℕ) (c : Changed) (s t : ℕ) → c ≡ Two s t → MarksOne l l1 s → MarksOne l1 m t → Marks l m c
-marked-two l l1 m c s t is marks marks2 b lies issue n fine cs are = double cs (are ∙ ap segmentsOf is)
+marked-two l l1 m c s t is marks marks2 b lies issue n fine cs are = double cs (are ∙ ap segmentsSaid is)
   where
     double : (cs : List Copy) → segmentsNamed cs ≡ s ∷ t ∷ [] → Lies m (withDrafts b (map (staled cs) (b .drafts)))
     double [] e = apart cc

@@ -2,7 +2,8 @@
 use mathlib.Core.Path.{_≡_, subst}
 use mathlib.Core.List.{List, []}
 use Prim.Native.Nat.{ℕ, _≤_}
-use Rattle.laws.proofs.Lists.{All, all-head, all-tail}
+use Rattle.laws.proofs.Lists.{all-head, all-tail}
+use Rattle.laws.specs.Lists.{All}
 use Rattle.layout.specs.declared.Changed.{Changed}
 use Rattle.layout.specs.declared.Changed.the-variants.{One, Two}
 use Rattle.moves.specs.Named.{Among}

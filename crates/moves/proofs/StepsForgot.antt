@@ -18,7 +18,7 @@ use Rattle.steps.specs.Book.{Copy, History, Book}
 use Rattle.steps.specs.Calls.{segmentsNamed, oldOf, latest, remember}
 use Rattle.layout.specs.Layout.{segmentOf, heldOf}
 use Rattle.layout.specs.Lies.{Lies}
-use Rattle.layout.specs.Rule.{segmentsOf}
+use Rattle.layout.specs.Rule.{segmentsSaid}
 use Rattle.layout.specs.declared.Changed.{Changed}
 use Rattle.layout.specs.declared.Changed.the-variants.{Nothing, One, Two}
 use Rattle.moves.specs.Named.{Among}
@@ -214,11 +214,11 @@ remember-is old f k ks = ap (λ (z : List (List Copy)). record { kept = z }) (la
 -- what pushing a step promises of bytes l before and m after
 abbrev pub Pushes : List ℕ → List ℕ → Changed → Type 0
 Pushes l m c =
-    (b : Book) → Lies l b → (cs : List Copy) → segmentsNamed cs ≡ segmentsOf c → Among (length (b .segments)) c
+    (b : Book) → Lies l b → (cs : List Copy) → segmentsNamed cs ≡ segmentsSaid c → Among (length (b .segments)) c
     → Lies m (withHistory b (remember (map (oldOf (b .segments)) cs) (b .history)))
 
 pub pushed-none : (l : List ℕ) (c : Changed) → c ≡ Nothing → Pushes l l c
-pushed-none l c is b lies cs are among = nothing cs (are ∙ ap segmentsOf is)
+pushed-none l c is b lies cs are among = nothing cs (are ∙ ap segmentsSaid is)
   where
     nothing : (cs : List Copy) → segmentsNamed cs ≡ [] → Lies l (withHistory b (remember (map (oldOf (b .segments)) cs) (b .history)))
     nothing [] e = lies
@@ -235,7 +235,7 @@ pub pushed-one : (l l1 m : List ℕ) (c : Changed) (s : ℕ) → c ≡ One s →
     → Lies m (withKept b (b .history .kept ++ (map (oldOf (b .segments)) cs ∷ []))))
     → Pushes l m c
 pushed-one l l1 m c s is room appends b lies cs are among =
-    let e : segmentsNamed cs ≡ s ∷ [] = are ∙ ap segmentsOf is in
+    let e : segmentsNamed cs ≡ s ∷ [] = are ∙ ap segmentsSaid is in
     pushed b m cs s [] e (appends (withKept b (lastFifteen (b .history .kept))) (room b lies) cs e (one-to among is))
 
 pub pushed-two : (l l1 m : List ℕ) (c : Changed) (s t : ℕ) → c ≡ Two s t → MakesRoom l l1
@@ -243,5 +243,5 @@ pub pushed-two : (l l1 m : List ℕ) (c : Changed) (s t : ℕ) → c ≡ Two s t
     → Lies m (withKept b (b .history .kept ++ (map (oldOf (b .segments)) cs ∷ []))))
     → Pushes l m c
 pushed-two l l1 m c s t is room appends b lies cs are among =
-    let e : segmentsNamed cs ≡ s ∷ t ∷ [] = are ∙ ap segmentsOf is in
+    let e : segmentsNamed cs ≡ s ∷ t ∷ [] = are ∙ ap segmentsSaid is in
     pushed b m cs s (t ∷ []) e (appends (withKept b (lastFifteen (b .history .kept))) (room b lies) cs e (first-to among is) (second-to among is))

@@ -4,15 +4,15 @@ use mathlib.Core.Bool.{Bool, cond, _||_}
 use mathlib.Core.List.{List}
 use lib.ListN.{length, getD, set}
 use lib.Dec.{eqb}
-use Rattle.laws.proofs.Lists.{All}
+use Rattle.laws.specs.Lists.{All}
 use Rattle.steps.specs.Book.{Draft}
 use Rattle.layout.specs.Layout.{copiesOf}
-use Rattle.layout.specs.Rule.{segmentsOf}
+use Rattle.layout.specs.Rule.{segmentsSaid}
 use Rattle.layout.specs.declared.Changed.{Changed}
 
 -- segments of n
 pub record Among (n : ℕ) (c : Changed) : Type 0 where
-  pub each : All (λ (s : ℕ). (1 ≤ s) × (s ≤ n)) (segmentsOf c)
+  pub each : All (λ (s : ℕ). (1 ≤ s) × (s ≤ n)) (segmentsSaid c)
 
 -- a draft that has taken at most two segments
 abbrev pub TwoTaken : Draft → Type 0

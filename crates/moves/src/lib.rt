@@ -6,7 +6,7 @@ ghost use mathlib.Core.List.{List, [], _∷_, _++_, map};
 ghost use mathlib.Core.Option.{some};
 ghost use Prim.Native.Nat.{ℕ, _+_, _*_, _≤_, _<_};
 ghost use lib.ListN.{length, getD, drop};
-ghost use Rattle.laws.proofs.Lists.{All};
+ghost use Rattle.laws.specs.Lists.{All};
 ghost use Rattle.codes.specs.Block.{Content};
 ghost use Rattle.blocks.specs.Block.{bookLength};
 ghost use Rattle.steps.specs.Book.{Copy, closed, working, Book, at, put, draftAt};
@@ -14,7 +14,7 @@ ghost use Rattle.steps.specs.Calls.{withDrafts, staled, segmentsNamed, stepsMos
 ghost use Rattle.layout.specs.Layout.{bytesOf, partOf, heldIn};
 ghost use Rattle.layout.specs.Sound.{FineDraft};
 ghost use Rattle.layout.specs.Lies.{Lies};
-ghost use Rattle.layout.specs.Rule.{segmentsOf};
+ghost use Rattle.layout.specs.Rule.{segmentsSaid};
 ghost use Rattle.moves.specs.Named.{Among, TwoTaken, marked};
 ghost use Rattle.moves.specs.Undo.{withSegments, withHistory, withKept, lastFifteen};
 use layout::Changed;
@@ -91,7 +91,7 @@ fn mark_drafts(book: &mut [u8], s: usize)
 // Marks the drafts stale that have taken one of some segments.
 pub fn mark_stale(book: &mut [u8], segments: Changed)
     requires { ⌜ (length (now book) ≡ bookLength) × Among 8 segments ⌝ }
-    ensures { λ _. ⌜ ((b : Book) → Lies (now (book .entry)) b → (issue n : ℕ) → All (FineDraft issue n) (b .drafts) → (cs : List Copy) → segmentsNamed cs ≡ segmentsOf segments → Lies (now (book .exit)) (withDrafts b (map (staled cs) (b .drafts)))) ⌝ }
+    ensures { λ _. ⌜ ((b : Book) → Lies (now (book .entry)) b → (issue n : ℕ) → All (FineDraft issue n) (b .drafts) → (cs : List Copy) → segmentsNamed cs ≡ segmentsSaid segments → Lies (now (book .exit)) (withDrafts b (map (staled cs) (b .drafts)))) ⌝ }
 {
     match segments {
         Changed::Nothing => {}
@@ -186,7 +186,7 @@ fn make_room(book: &mut [u8])
 // Makes what some segments hold the newest step; where there are none, nothing is done.
 pub fn push_step(book: &mut [u8], segments: Changed)
     requires { ⌜ (length (now book) ≡ bookLength) × (getD (now book) 24 0 ≤ stepsMost) × Among 8 segments ⌝ }
-    ensures { λ _. ⌜ ((b : Book) → Lies (now (book .entry)) b → (cs : List Copy) → segmentsNamed cs ≡ segmentsOf segments → Among (length (b .segments)) segments → Lies (now (book .exit)) (withHistory b (remember (map (oldOf (b .segments)) cs) (b .history)))) ⌝ }
+    ensures { λ _. ⌜ ((b : Book) → Lies (now (book .entry)) b → (cs : List Copy) → segmentsNamed cs ≡ segmentsSaid segments → Among (length (b .segments)) segments → Lies (now (book .exit)) (withHistory b (remember (map (oldOf (b .segments)) cs) (b .history)))) ⌝ }
 {
     match segments {
         Changed::Nothing => {}

@@ -10,7 +10,7 @@ use lib.ListN.{length}
 use lib.Dec.{leb, eqb}
 use borrow.Author.Tests.{leb-true, ne-eqb}
 use Rattle.laws.proofs.Tests.{impossible, and-left, and-right}
-use Rattle.laws.proofs.Lists.{All, all-cons}
+use Rattle.laws.specs.Lists.{All, all-cons}
 use Rattle.refusal.specs.Numbers.{Reason, numberOf, wrongLength, wrongText, wrongHeading, wrongIdentifier, wrongTime, wrongBlock, noSegment, noEnd, ninthSegment, wrongStorm, tooManyPlaces, notSound, noDraft, allOpen, noSuchSegment, notTaken, takenAlready, twoTaken, segmentFull, onlyPlace, staleDraft, noStep, outputShort, outOfRange}
 use Rattle.refusal.specs.Answer.{Answer, ok, no, refused}
 use Rattle.blocks.proofs.Numbers.{low-byte, high-part}

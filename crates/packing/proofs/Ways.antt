@@ -19,7 +19,7 @@ use Rattle.heading.specs.declared.Basin.the-variants.{Al, Sl, Ep, Cp, Wp}
 use Rattle.heading.specs.declared.StormId.{StormId}
 use Rattle.heading.specs.declared.Storm.{Storm}
 use Rattle.heading.specs.declared.Storm.the-variants as storm
-use Rattle.layout.specs.Rule.{segmentsOf, paperReply}
+use Rattle.layout.specs.Rule.{segmentsSaid, paperReply}
 use Rattle.layout.specs.declared.Changed.{Changed}
 use Rattle.layout.specs.declared.Changed.the-variants as changed
 use Rattle.layout.specs.declared.Reply.{Reply}
@@ -34,19 +34,19 @@ cell-is low rest = refl
 
 -- ---- the segments that changed
 module _ (c : Changed) where
-  pub spell-none : c ≡ changed.Nothing → 0 ≡ spelled (segmentsOf c)
+  pub spell-none : c ≡ changed.Nothing → 0 ≡ spelled (segmentsSaid c)
   unfolding spelled
-  spell-none q = ap (λ (x : Changed). spelled (segmentsOf x)) (sym q)
+  spell-none q = ap (λ (x : Changed). spelled (segmentsSaid x)) (sym q)
 
-  pub spell-one : (a : ℕ) → c ≡ changed.One a → a % 256 ≡ spelled (segmentsOf c)
+  pub spell-one : (a : ℕ) → c ≡ changed.One a → a % 256 ≡ spelled (segmentsSaid c)
   unfolding spelled
-  spell-one a q = let e : a % 256 ≡ a % 256 + 256 * 0 = omega arith in e ∙ ap (λ (x : Changed). spelled (segmentsOf x)) (sym q)
+  spell-one a q = let e : a % 256 ≡ a % 256 + 256 * 0 = omega arith in e ∙ ap (λ (x : Changed). spelled (segmentsSaid x)) (sym q)
 
-  pub spell-two : (a b : ℕ) → c ≡ changed.Two a b → a % 256 + 256 * (b % 256) ≡ spelled (segmentsOf c)
+  pub spell-two : (a b : ℕ) → c ≡ changed.Two a b → a % 256 + 256 * (b % 256) ≡ spelled (segmentsSaid c)
   unfolding spelled
   spell-two a b q =
       let e : a % 256 + 256 * (b % 256) ≡ a % 256 + 256 * (b % 256 + 256 * 0) = omega arith in
-      e ∙ ap (λ (x : Changed). spelled (segmentsOf x)) (sym q)
+      e ∙ ap (λ (x : Changed). spelled (segmentsSaid x)) (sym q)
 
 -- ---- a BBB
 module _ (x : Bbb) where
@@ -127,7 +127,7 @@ module _ (x : Reply) (r : ℕ) where
   unfolding pack valueBits
   reply-was t q n en e = as-reply (reply.Was t) q (e ∙ ap (cell 0) en)
 
-  pub reply-segments : (c : Changed) → x ≡ reply.Segments c → (n : ℕ) → n ≡ spelled (segmentsOf c) → r ≡ cell 0 n → r ≡ packed (paperReply x)
+  pub reply-segments : (c : Changed) → x ≡ reply.Segments c → (n : ℕ) → n ≡ spelled (segmentsSaid c) → r ≡ cell 0 n → r ≡ packed (paperReply x)
   unfolding pack valueBits
   reply-segments c q n en e = as-reply (reply.Segments c) q (e ∙ ap (cell 0) en)
 

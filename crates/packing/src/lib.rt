@@ -4,7 +4,7 @@ ghost use Prim.Native.Nat.{_-_, _%_, _≤_, _<_};
 ghost use Rattle.refusal.specs.Answer.{paperVerdict};
 ghost use Rattle.writing.specs.Write.{paperWritten};
 ghost use Rattle.layout.specs.Layout as layouts;
-ghost use Rattle.layout.specs.Rule.{segmentsOf, paperReply};
+ghost use Rattle.layout.specs.Rule.{segmentsSaid, paperReply};
 ghost use Rattle.heading.specs.Paper.{paperBbb, paperBasin, paperClass, paperId, paperStorm};
 ghost use Rattle.packing.specs.Packing.{cell, pack, packed, nothing, plain, spelled, bbbBits, basinNumber, classNumber, nameBits, stormBits, viewBits};
 use heading::Basin;
@@ -26,7 +26,7 @@ pub fn cell(low: usize, rest: usize) -> u64
 
 // The segments that changed, a byte each.
 fn spell(changed: Changed) -> usize
-    ensures { λ r. ⌜ r ≡ spelled (segmentsOf changed) ⌝ }
+    ensures { λ r. ⌜ r ≡ spelled (segmentsSaid changed) ⌝ }
 {
     match changed {
         Changed::Nothing => 0,

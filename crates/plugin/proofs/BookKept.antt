@@ -8,15 +8,14 @@ use mathlib.Core.Option.{Option, none, some}
 use lib.ListN.{length, getElem?, length-map}
 use lib.Dec.{ltb, eqb}
 use Rattle.laws.proofs.Tests.{apart}
-use Rattle.laws.proofs.Lists.{All, all-nil, all-cons}
+use Rattle.laws.specs.Lists.{All, all-nil, all-cons}
 use Rattle.refusal.specs.Numbers.{Reason, wrongLength, wrongTime, notSound, noDraft, allOpen, noSuchSegment, notTaken, takenAlready, twoTaken, segmentFull, onlyPlace, staleDraft, noStep, outOfRange}
 use Rattle.refusal.specs.Answer.{Answer, refused}
 use Rattle.calendar.specs.Purge.{purgeOf}
 use Rattle.calendar.proofs.Laws.{purge-low}
 use Rattle.codes.specs.Places.{placesEnd, capacity, Ascending, nil, cons}
 use Rattle.codes.specs.Block.{Content}
-use Rattle.blocks.specs.Block.{bookLength}
-use Rattle.blocks.proofs.Numbers.{Bytes}
+use Rattle.blocks.specs.Block.{bookLength, Bytes}
 use Rattle.blocks.proofs.Contents.{purge-32}
 use Rattle.steps.specs.Book.{Copy, Draft, closed, working, Book, at, draftAt}
 use Rattle.steps.specs.Calls.{Value, draft, done, number, was, changed, Edit, readPurge, readCount, readPlace, add, remove, setPurge, Work, taking, editing, Call, opening, on, commit, drop, undo, settle, member, editRule, inRange, copyOf, has, workRule, changes, segmentsNamed, lowest, newest, openDraft, bookRule}

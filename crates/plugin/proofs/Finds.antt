@@ -7,14 +7,14 @@ use mathlib.Core.Option.{Option, none, some}
 use lib.ListN.{length, getD, getElem?, length-map}
 use lib.Seq.{getD-take, length-take-le}
 use Rattle.laws.proofs.Tests.{impossible}
-use Rattle.laws.proofs.Lists.{All, all-cons}
+use Rattle.laws.specs.Lists.{All, all-cons}
 use Rattle.refusal.specs.Numbers.{noSuchSegment, outOfRange}
 use Rattle.refusal.specs.Answer.{ok, no, refusalFor, andThen}
 use Rattle.refusal.specs.declared.Refusal.{Refusal}
 use Rattle.codes.specs.Block as codes
 use Rattle.codes.specs.Block.{contentAt}
 use Rattle.reading.specs.Placed.{placedAt}
-use Rattle.reading.specs.Held.{Good, contentFor, contentOf, paperContent}
+use Rattle.reading.specs.Held.{Good, contentFor, contentBy, paperContent}
 use Rattle.reading.proofs.Placing.{content-told}
 use Rattle.reading.specs.Held as held
 use Rattle.reading.specs.declared.Purge.{Purge}
@@ -23,7 +23,7 @@ use Rattle.reading.specs.declared.Content.{Content}
 use Rattle.bulletin.specs.Segments as segments
 use Rattle.bulletin.specs.Bulletin as rule
 use Rattle.bulletin.specs.Bulletin.{readBulletin}
-use Rattle.bulletin.specs.Seen.{seen, segmentsIn, Sized}
+use Rattle.bulletin.specs.Seen.{seen, segmentsHeld, Sized}
 use Rattle.bulletin.specs.Report.{reported, reportOf, Reads}
 use Rattle.bulletin.specs.declared.Segment.{Segment}
 use Rattle.bulletin.specs.declared.Head.{Head}
@@ -54,11 +54,11 @@ module _ (s : List ℕ) (issue start i : ℕ) (k : Content) (w : k ≡ contentFo
   e = content-told s issue start k w
 
   pub place-no : (y : Refusal) → k .purge ≡ purge.Refused y → paperReply (reply.Refused y) ≡ placeAnswer i (contentAt s issue start)
-  place-no y q = ap (λ (p : Purge). placeAnswer i (contentOf p (k .places))) (sym q) ∙ ap (placeAnswer i) e
+  place-no y q = ap (λ (p : Purge). placeAnswer i (contentBy p (k .places))) (sym q) ∙ ap (placeAnswer i) e
 
   module _ (t at : ℕ) (q : k .purge ≡ purge.At t at) (g : Good (k .places)) where
     placed : placeAt (getElem? (held.placesIn (k .places)) i) ≡ placeAnswer i (contentAt s issue start)
-    placed = ap (λ (p : Purge). placeAnswer i (contentOf p (k .places))) (sym q) ∙ ap (placeAnswer i) e
+    placed = ap (λ (p : Purge). placeAnswer i (contentBy p (k .places))) (sym q) ∙ ap (placeAnswer i) e
 
     long : length (held.placesIn (k .places)) ≡ k .places .count
     long = length-take-le (k .places .count) (k .places .held) (omega (arith, g .long, g .few))
@@ -96,11 +96,11 @@ module _ (s : List ℕ) (year month n i : ℕ) where
         sym (rule-no (y .number) (y .place) (refused-by s year month y (readBulletin s year month) refl f))
 
     module _ (h : Head) (q : b .reading ≡ reading.Accepted h) where
-      read-ok : ok (reportOf h (segmentsIn (b .segments))) ≡ reported (readBulletin s year month)
+      read-ok : ok (reportOf h (segmentsHeld (b .segments))) ≡ reported (readBulletin s year month)
       read-ok = rw q at (reads .says)
 
-      told : Told s year month h (segmentsIn (b .segments))
-      told = told-by s year month h (segmentsIn (b .segments)) (readBulletin s year month) refl read-ok
+      told : Told s year month h (segmentsHeld (b .segments))
+      told = told-by s year month h (segmentsHeld (b .segments)) (readBulletin s year month) refl read-ok
 
       pub find-low : n < 1 → (r : Reply) → r ≡ reply.Refused (refusalFor noSuchSegment 0) → paperReply r ≡ placeIn s year month n i
       find-low k r er =

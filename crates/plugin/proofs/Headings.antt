@@ -10,7 +10,8 @@ use lib.Seq.{drop-drop}
 use lib.Dec.{leb, eqb}
 use borrow.Author.Tests.{leb-true, eqb-true}
 use Rattle.laws.proofs.Tests.{by, apart, impossible, either-way, and-left, and-right}
-use Rattle.laws.proofs.Lists.{All, all-nil, all-cons, all-append, all-map, all-drop}
+use Rattle.laws.proofs.Lists.{all-append, all-map, all-drop}
+use Rattle.laws.specs.Lists.{All, all-nil, all-cons}
 use Rattle.refusal.specs.Numbers.{wrongHeading, wrongIdentifier, wrongStorm}
 use Rattle.lines.specs.Bytes.{Kind, between, capital, digit, is, word, begins, exactly}
 use Rattle.lines.specs.Lines.{Line, blank}

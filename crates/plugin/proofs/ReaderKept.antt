@@ -9,7 +9,8 @@ use lib.ListN.{length, take, drop, getElem?, length-map}
 use lib.Dec.{leb, eqb}
 use borrow.Author.Tests.{leb-true}
 use Rattle.laws.proofs.Tests.{by, either-way, and-right}
-use Rattle.laws.proofs.Lists.{All, all-nil, all-cons, all-each}
+use Rattle.laws.proofs.Lists.{all-each}
+use Rattle.laws.specs.Lists.{All, all-nil, all-cons}
 use Rattle.refusal.specs.Numbers.{wrongLength, wrongTime, notSound, noSuchSegment, outOfRange, outputShort}
 use Rattle.refusal.specs.Answer.{Answer, ok, no, andThen}
 use Rattle.lines.specs.Lines.{linesOf}
@@ -38,7 +39,7 @@ use Rattle.bulletin.specs.Segments as segments
 use Rattle.bulletin.specs.Bulletin.{textMost, isLength, issued, Bulletin, readBulletin}
 use Rattle.bulletin.specs.Seen.{seen}
 use Rattle.bulletin.specs.Report.{Report, reported}
-use Rattle.bulletin.specs.View.{numbered, viewOf, partOf}
+use Rattle.bulletin.specs.View.{numbered, viewOf, partViewed}
 use Rattle.bulletin.specs.declared.Segment.{Segment}
 use Rattle.making.specs.Make.{bookFrom, makeRule, madeAnswer, orNoSegment, segmentBlock, writeOn}
 use Rattle.making.proofs.Writing.{segment-most}
@@ -216,7 +217,7 @@ module _ (text : List ℕ) (year month n : ℕ) where
   places-back = seen-kept countOf plain plain (λ g f. small (g .count) (omega (arith, f .count)))
 
 -- the bytes at a view are the part of the text that the reader hands back
-pub view-part : (g : Segment) (text : List ℕ) → take (viewed g .size) (drop (viewed g .start) text) ≡ partOf (ok g) text
+pub view-part : (g : Segment) (text : List ℕ) → take (viewed g .size) (drop (viewed g .start) text) ≡ partViewed (ok g) text
 view-part g text = refl
 
 -- ---- the place at an index

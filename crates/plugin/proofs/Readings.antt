@@ -9,7 +9,7 @@ use Rattle.refusal.specs.declared.Refusal.{Refusal}
 use Rattle.refusal.specs.Answer.{Answer}
 use Rattle.heading.specs.Paper.{paperBbb, paperStorm}
 use Rattle.bulletin.specs.Bulletin.{readBulletin}
-use Rattle.bulletin.specs.Seen.{segmentsIn, Sized}
+use Rattle.bulletin.specs.Seen.{segmentsHeld, Sized}
 use Rattle.bulletin.specs.Report.{Report, reported, reportOf, readingOf, Reads}
 use Rattle.bulletin.specs.View.{paperViewed}
 use Rattle.bulletin.specs.declared.Segment.{Segment}
@@ -32,7 +32,7 @@ module _ (s : List ℕ) (year month : ℕ) (b : Bulletin) (reads : Reads s year 
   read-no f y q r e = as-read f (reading.Refused y) r q e
 
   module _ (h : Head) (q : b .reading ≡ reading.Accepted h) where
-    read-ok : (f : Report → ℕ) (n r : ℕ) → n ≡ f (reportOf h (segmentsIn (b .segments))) → r ≡ cell 0 n → r ≡ pack f (reported (readBulletin s year month))
+    read-ok : (f : Report → ℕ) (n r : ℕ) → n ≡ f (reportOf h (segmentsHeld (b .segments))) → r ≡ cell 0 n → r ≡ pack f (reported (readBulletin s year month))
     unfolding pack
     read-ok f n r en e = as-read f (reading.Accepted h) r q (e ∙ ap (cell 0) en)
 

@@ -10,7 +10,8 @@ use lib.ListN.{length, drop, length-drop}
 use lib.Dec.{leb, ltb, eqb}
 use borrow.Author.Tests.{ltb-true}
 use Rattle.laws.proofs.Tests.{by, apart, either-way}
-use Rattle.laws.proofs.Lists.{All, all-nil, all-cons, all-append}
+use Rattle.laws.proofs.Lists.{all-append}
+use Rattle.laws.specs.Lists.{All, all-nil, all-cons}
 use Rattle.refusal.specs.Numbers.{Reason, wrongText, wrongTime, wrongBlock, noSegment, noEnd, ninthSegment, tooManyPlaces}
 use Rattle.refusal.specs.Answer.{Answer, ok, no, refused, refusedAt, must, andThen}
 use Rattle.lines.specs.Bytes.{lf}

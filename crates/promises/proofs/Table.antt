@@ -19,7 +19,7 @@ use Rattle.bulletin.specs.Mnd.{stormIn}
 use Rattle.reading.specs.Placed.{placedAt}
 use Rattle.bulletin.specs.Segments.{pastPurge, segmentsFrom, firstLines, segmentsOf}
 use Rattle.bulletin.specs.Bulletin.{isLength, readBulletin}
-use Rattle.laws.proofs.Tables.{every}
+use Rattle.laws.specs.Lists.{every}
 use Rattle.promises.specs.Examples.{holds, table}
 
 pub examples : T (every holds table)

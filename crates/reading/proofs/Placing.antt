@@ -11,7 +11,7 @@ use Rattle.calendar.specs.Purge.{purgeOf}
 use Rattle.codes.specs.Block as codes
 use Rattle.codes.specs.Block.{Read, block, wrongAt, readBlock, contentIn, contentAt}
 use Rattle.reading.specs.Placed.{purgePlace, Placed, placedAt}
-use Rattle.reading.specs.Held.{vacant, placesFor, placesIn, contentFor, contentOf, paperContent}
+use Rattle.reading.specs.Held.{vacant, placesFor, placesIn, contentFor, contentBy, paperContent}
 use Rattle.reading.specs.declared.Places.{Places}
 use Rattle.reading.specs.declared.Purge.{Purge}
 use Rattle.reading.specs.declared.Purge.the-variants.{At, Refused}

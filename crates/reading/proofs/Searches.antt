@@ -8,7 +8,8 @@ use lib.ListN.{length, getD, take}
 use lib.Seq.{getD-take, length-take-le}
 use lib.Dec.{ltb}
 use borrow.Author.Tests.{ltb-true, lt-ltb}
-use Rattle.laws.proofs.Tables.{every, every-at}
+use Rattle.laws.proofs.Tables.{every-at}
+use Rattle.laws.specs.Lists.{every}
 use Rattle.laws.proofs.Tests.{impossible, by-order, same-test}
 use Rattle.codes.specs.Places.{Ascending, nil, cons}
 use Rattle.codes.specs.Serving.{First}

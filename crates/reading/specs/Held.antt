@@ -49,9 +49,9 @@ contentFor (ok p) = record { purge = At (p .content .purge) (p .at); places = pl
 contentFor (no number place) = record { purge = Refused (record { number = number; place = place }); places = placesFor [] }
 
 -- what it says, without the purge element's place
-abbrev pub contentOf : Purge → Places → Answer codes.Content
-contentOf (At t at) p = ok (record { purge = t; places = placesIn p })
-contentOf (Refused r) p = paperRefusal r
+abbrev pub contentBy : Purge → Places → Answer codes.Content
+contentBy (At t at) p = ok (record { purge = t; places = placesIn p })
+contentBy (Refused r) p = paperRefusal r
 
 abbrev pub paperContent : Content → Answer codes.Content
-paperContent c = contentOf (c .purge) (c .places)
+paperContent c = contentBy (c .purge) (c .places)

@@ -1,4 +1,5 @@
--- Serves the code: what the functions of this crate say to each other while a block is read. Of a lent array the first `count` numbers are the places held. Nothing outside the crate builds on it.
+-- Serves the code: what the functions of this crate say to each other while a block is read. Of a lent array the first `count` numbers are the places held.
+-- Nothing outside the crate builds on it.
 use Prim.Native.Nat.{ℕ, _-_}
 use mathlib.Core.Path.{_≡_}
 use mathlib.Core.List.{List}
@@ -6,7 +7,7 @@ use mathlib.Core.Bool.{Bool, true, false, cond}
 use mathlib.Core.Option.{Option, none, some}
 use lib.ListN.{length, take}
 use lib.Dec.{ltb, leb}
-use Rattle.laws.proofs.Tables.{every}
+use Rattle.laws.specs.Lists.{every}
 use Rattle.codes.specs.Places.{capacity}
 use Rattle.codes.specs.Block.{insertRun}
 use Rattle.reading.specs.Held.{placesIn, Good}

@@ -14,7 +14,7 @@ use mir.Syntax.{w64}
 use mir.Val.{Fits}
 use Rattle.laws.proofs.Tests.{by-order, and-left, and-right}
 use Rattle.lines.specs.Bytes.{digit}
-use Rattle.replay.specs.Lines.{mostDigits, decimal, front, numberAt}
+use Rattle.replay.specs.Lines.{mostDigits, decimal, digitsInFront, numberFrom}
 use Rattle.replay.specs.declared.Number.{Number}
 
 unfoldable pub tens : ℕ → ℕ
@@ -47,8 +47,8 @@ pub record Reads (s : List ℕ) (from v at left : ℕ) : Type 0 where
   pub high : at ≤ length s
   pub all : at + left ≡ from + 10
   pub small : v < tens (at - from)
-  pub ends : from + front mostDigits (drop from s) ≡ at + front left (drop at s)
-  pub is : decimal 0 (take (front mostDigits (drop from s)) (drop from s)) ≡ decimal v (take (front left (drop at s)) (drop at s))
+  pub ends : from + digitsInFront mostDigits (drop from s) ≡ at + digitsInFront left (drop at s)
+  pub is : decimal 0 (take (digitsInFront mostDigits (drop from s)) (drop from s)) ≡ decimal v (take (digitsInFront left (drop at s)) (drop at s))
 
 pub reads-start : (s : List ℕ) (from : ℕ) → from ≤ length s → Reads s from 0 from 10
 unfolding tens
@@ -56,17 +56,17 @@ reads-start s from h =
     let e : from - from ≡ 0 = omega arith in
     record { low = omega arith; high = h; all = refl; small = rw e (omega arith); ends = refl; is = refl }
 
-front-on : (s : List ℕ) (at l b : ℕ) → b ≡ getD s at 0 → digit b ≡ true → at < length s → front (suc l) (drop at s) ≡ suc (front l (drop (suc at) s))
-unfolding front
+front-on : (s : List ℕ) (at l b : ℕ) → b ≡ getD s at 0 → digit b ≡ true → at < length s → digitsInFront (suc l) (drop at s) ≡ suc (digitsInFront l (drop (suc at) s))
+unfolding digitsInFront
 front-on s at l b e d h = rw (drop-cons s at 0 h, ← e, d)
 
-front-off : (s : List ℕ) (at l b : ℕ) → b ≡ getD s at 0 → digit b ≡ false → front l (drop at s) ≡ 0
-unfolding front
+front-off : (s : List ℕ) (at l b : ℕ) → b ≡ getD s at 0 → digit b ≡ false → digitsInFront l (drop at s) ≡ 0
+unfolding digitsInFront
 front-off s at zero b e d = refl
 front-off s at (suc l) b e d = by-order at (length s) (λ h. rw (drop-cons s at 0 h, ← e, d)) (λ h. rw (drop-of-length-le s h))
 
 value-on : (s : List ℕ) (at l b v : ℕ) → b ≡ getD s at 0 → digit b ≡ true → at < length s
-    → decimal v (take (front (suc l) (drop at s)) (drop at s)) ≡ decimal (10 * v + (b - 48)) (take (front l (drop (suc at) s)) (drop (suc at) s))
+    → decimal v (take (digitsInFront (suc l) (drop at s)) (drop at s)) ≡ decimal (10 * v + (b - 48)) (take (digitsInFront l (drop (suc at) s)) (drop (suc at) s))
 unfolding decimal
 value-on s at l b v e d h = rw (front-on s at l b e d h, drop-cons s at 0 h, ← e)
 
@@ -104,17 +104,17 @@ module _ (s : List ℕ) (from v at left : ℕ) (r : Reads s from v at left) (p :
     pub reads-next : t ≡ true → Reads s from (10 * v + (b - 48)) (at + 1) (left - 1)
     reads-next d = reads-on s from v at left b r p e (sym q ∙ d)
 
-    pub reads-stop : t ≡ false → _≡_ {A = Number} (record { value = v; end = at }) (numberAt s from)
+    pub reads-stop : t ≡ false → _≡_ {A = Number} (record { value = v; end = at }) (numberFrom s from)
     unfolding decimal
     reads-stop d = rw (r .ends, r .is, front-off s at left b e (sym q ∙ d)) (ap (λ (n : ℕ). record { value = v; end = n }) (omega arith))
 
 pub digit-least : (b : ℕ) (t : Bool) → t ≡ digit b → t ≡ true → 48 ≤ b
 digit-least b t q d = digit-low b (sym q ∙ d)
 
-pub reads-full : (s : List ℕ) (from v at left : ℕ) → Reads s from v at left → left ≤ 0 → _≡_ {A = Number} (record { value = v; end = at }) (numberAt s from)
-unfolding decimal front
+pub reads-full : (s : List ℕ) (from v at left : ℕ) → Reads s from v at left → left ≤ 0 → _≡_ {A = Number} (record { value = v; end = at }) (numberFrom s from)
+unfolding decimal digitsInFront
 reads-full s from v at left r p =
     let z : left ≡ 0 = omega arith in
-    let e : from + front mostDigits (drop from s) ≡ at = (rw z at (r .ends)) ∙ omega arith in
-    let f : decimal 0 (take (front mostDigits (drop from s)) (drop from s)) ≡ v = rw z at (r .is) in
+    let e : from + digitsInFront mostDigits (drop from s) ≡ at = (rw z at (r .ends)) ∙ omega arith in
+    let f : decimal 0 (take (digitsInFront mostDigits (drop from s)) (drop from s)) ≡ v = rw z at (r .is) in
     rw (e, f)

@@ -5,7 +5,7 @@ use mathlib.Core.Bool.{Bool, cond, _&&_}
 use mathlib.Core.Option.{Option, none, some}
 use lib.ListN.{length, take, drop}
 use lib.Dec.{eqb, leb, ltb}
-use Rattle.laws.proofs.Tables.{every}
+use Rattle.laws.specs.Lists.{every}
 use Rattle.lines.specs.Bytes.{Kind, digit, word, begins}
 use Rattle.lines.specs.Lines.{glue}
 use Rattle.lines.specs.Spans.{part}
@@ -47,8 +47,8 @@ behind [] = none
 behind ([] ∷ ws) = numbersIn ws
 behind ((b ∷ w) ∷ ws) = none
 
-unfoldable pub numbersOf : List ℕ → Option (List ℕ)
-numbersOf s = behind (words s)
+unfoldable pub numbersBehind : List ℕ → Option (List ℕ)
+numbersBehind s = behind (words s)
 
 pub record CallLine : Type 0 where
   pub kind : ℕ
@@ -64,12 +64,12 @@ called k (some ns) = cond (leb (length ns) mostNumbers) (some (record { kind = k
 
 unfoldable pub callLine : List ℕ → Option CallLine
 callLine [] = none
-callLine (k ∷ s) = called k (numbersOf s)
+callLine (k ∷ s) = called k (numbersBehind s)
 
 -- "each ended by LF": the bytes before the next LF, or all of them
-unfoldable pub upTo : ℕ → List ℕ → List ℕ
-upTo sep [] = []
-upTo sep (b ∷ s) = cond (eqb b sep) [] (b ∷ upTo sep s)
+unfoldable pub lineUpTo : ℕ → List ℕ → List ℕ
+lineUpTo sep [] = []
+lineUpTo sep (b ∷ s) = cond (eqb b sep) [] (b ∷ lineUpTo sep s)
 
 -- ---- a case's first two lines
 -- "NNNNN LF: five decimal digits: the bulletin's length in bytes"
@@ -92,20 +92,20 @@ starting none o s = none
 starting (some t) none s = none
 starting (some t) (some n) s = cond (leb n (length s)) (some (record { year = t .year; month = t .month; bulletin = take n s; rest = drop n s })) none
 
-unfoldable pub startOf : List ℕ → Option Start
-startOf s = starting (askedOf s) (lengthLine (drop 8 s)) (drop 14 s)
+unfoldable pub caseOf : List ℕ → Option Start
+caseOf s = starting (askedOf s) (lengthLine (drop 8 s)) (drop 14 s)
 
 -- ---- what the code's types mean
 -- how many digits stand at the front of s, at most n counted
-unfoldable pub front : ℕ → List ℕ → ℕ
-front zero s = zero
-front (suc n) [] = zero
-front (suc n) (b ∷ s) = cond (digit b) (suc (front n s)) zero
+unfoldable pub digitsInFront : ℕ → List ℕ → ℕ
+digitsInFront zero s = zero
+digitsInFront (suc n) [] = zero
+digitsInFront (suc n) (b ∷ s) = cond (digit b) (suc (digitsInFront n s)) zero
 
 -- the number that stands at the place `from`, and the place behind it
-abbrev pub numberAt : List ℕ → ℕ → Number
-numberAt s from =
-    record { value = decimal 0 (take (front mostDigits (drop from s)) (drop from s)); end = from + front mostDigits (drop from s) }
+abbrev pub numberFrom : List ℕ → ℕ → Number
+numberFrom s from =
+    record { value = decimal 0 (take (digitsInFront mostDigits (drop from s)) (drop from s)); end = from + digitsInFront mostDigits (drop from s) }
 
 abbrev pub paperLine : Line → Option CallLine
 paperLine l = cond (l .known) (some (record { kind = l .kind; numbers = take (l .count) (l .numbers) })) none
@@ -115,6 +115,6 @@ paperOpening s (Case c) = some (record { year = c .year; month = c .month; bulle
 paperOpening s Wrong = none
 
 -- the case's call lines start behind `at`, and not behind the input's end
-abbrev pub within : ℕ → ℕ → Opening → Type 0
-within at n (Case c) = (at < c .end) × (c .end ≤ n)
-within at n Wrong = Unit {0}
+abbrev pub linesWithin : ℕ → ℕ → Opening → Type 0
+linesWithin at n (Case c) = (at < c .end) × (c .end ≤ n)
+linesWithin at n Wrong = Unit {0}

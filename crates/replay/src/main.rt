@@ -4,7 +4,7 @@ ghost use mathlib.Core.Bool.{false};
 ghost use Prim.Native.Nat.{_+_, _≤_, _<_};
 ghost use lib.ListN.{length, drop};
 ghost use Rattle.lines.specs.Bytes.{lf};
-ghost use Rattle.replay.specs.Lines.{callLine, upTo, startOf, numberAt, paperLine, paperOpening, within};
+ghost use Rattle.replay.specs.Lines.{callLine, lineUpTo, caseOf, numberFrom, paperLine, paperOpening, linesWithin};
 use calendar::Stamp;
 use layout::Changed;
 use layout::Reply;
@@ -41,7 +41,7 @@ struct Line {
 // The number that at most ten digits from `from` on spell, and where they end.
 fn read_number(line: &[u8], from: usize) -> Number
     requires { ⌜ from ≤ length (now line) ⌝ }
-    ensures is { λ r. ⌜ r ≡ numberAt (now (line .entry)) from ⌝ }
+    ensures is { λ r. ⌜ r ≡ numberFrom (now (line .entry)) from ⌝ }
     ensures ends { λ r. ⌜ (from ≤ r .end) × (r .end ≤ length (now (line .entry))) ⌝ }
 {
     let mut value = 0;
@@ -109,7 +109,7 @@ fn spell(line: &[u8]) -> Line
 // Where the line that starts at `at` ends: at its LF, or at the input's end.
 fn line_end(input: &[u8], at: usize) -> usize
     requires { ⌜ at ≤ length (now input) ⌝ }
-    ensures is { λ r. ⌜ r ≡ at + length (upTo lf (drop at (now (input .entry)))) ⌝ }
+    ensures is { λ r. ⌜ r ≡ at + length (lineUpTo lf (drop at (now (input .entry)))) ⌝ }
     ensures ends { λ r. ⌜ (at ≤ r) × (r ≤ length (now (input .entry))) ⌝ }
 {
     let mut i = at;
@@ -139,8 +139,8 @@ enum Opening {
 // A case's first two lines: the time, and the bulletin's length as five digits.
 fn read_opening(input: &[u8], at: usize) -> Opening
     requires { ⌜ at ≤ length (now input) ⌝ }
-    ensures is { λ r. ⌜ paperOpening (now (input .entry)) r ≡ startOf (drop at (now (input .entry))) ⌝ }
-    ensures ends { λ r. ⌜ within at (length (now (input .entry))) r ⌝ }
+    ensures is { λ r. ⌜ paperOpening (now (input .entry)) r ≡ caseOf (drop at (now (input .entry))) ⌝ }
+    ensures ends { λ r. ⌜ linesWithin at (length (now (input .entry))) r ⌝ }
 {
     let head = &input[at..];
     let Asked::Month(year, month) = printing::read_asked(head) else {

@@ -7,7 +7,7 @@ use mathlib.Core.Option.{Option, some}
 use lib.ListN.{length, length-append}
 use borrow.Author.Tests.{leb-true}
 use Rattle.laws.proofs.Tests.{by}
-use Rattle.laws.proofs.Lists.{All, all-nil, all-cons}
+use Rattle.laws.specs.Lists.{All, all-nil, all-cons}
 use Rattle.lines.specs.Lines.{pieces, bodyOf, Line, linesAt, linesFrom}
 use Rattle.calendar.specs.declared.Stamp.{Stamp}
 use Rattle.codes.specs.Written.{Run, elementsOf, purgeElement, writtenMost, fits, Wrapped, wrapFrom, wrapped, inOrder, rendered}

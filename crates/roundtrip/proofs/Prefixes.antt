@@ -8,7 +8,8 @@ use mathlib.Core.Option.{Option, none, some}
 use lib.Dec.{eqb}
 use borrow.Author.Tests.{eqb-true, eqb-false}
 use Rattle.laws.proofs.Tests.{by, apart, either-way}
-use Rattle.laws.proofs.Lists.{All, all-nil, all-cons, all-append, all-map, all-at}
+use Rattle.laws.proofs.Lists.{all-append, all-map, all-at}
+use Rattle.laws.specs.Lists.{All, all-nil, all-cons}
 use Rattle.lines.specs.Bytes.{begins}
 use Rattle.calendar.specs.Calendar.{isTime}
 use Rattle.calendar.specs.declared.Stamp.{Stamp}

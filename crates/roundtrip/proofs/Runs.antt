@@ -10,7 +10,8 @@ use mathlib.Core.Option.{Option, some}
 use lib.Dec.{eqb}
 use borrow.Author.Tests.{eqb-true, eqb-false, not-true}
 use Rattle.laws.proofs.Tests.{by, and-left, and-right}
-use Rattle.laws.proofs.Lists.{All, all-nil, all-cons, all-append, all-map}
+use Rattle.laws.proofs.Lists.{all-append, all-map}
+use Rattle.laws.specs.Lists.{All, all-nil, all-cons}
 use Rattle.calendar.specs.Calendar.{isTime}
 use Rattle.calendar.specs.declared.Stamp.{Stamp}
 use Rattle.codes.specs.Places.{placesEnd, Ascending, nil, cons, upward}

@@ -7,7 +7,7 @@ use mathlib.Core.List.{List, [], _∷_, _++_, append-assoc}
 use lib.ListN.{length}
 use borrow.Author.Tests.{ne-eqb, le-leb}
 use Rattle.laws.proofs.Tests.{either-way}
-use Rattle.laws.proofs.Lists.{All, all-nil, all-cons}
+use Rattle.laws.specs.Lists.{All, all-nil, all-cons}
 use Rattle.lines.specs.Bytes.{bytes, lf, exactly}
 use Rattle.lines.specs.Lines.{pieces, lineEnd, bodyOf, linesAt, linesFrom}
 use Rattle.codes.specs.Elements.{Element, dash, elementsAt, elementsOfBody, elementsOfLines, elementsFrom}

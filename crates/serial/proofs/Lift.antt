@@ -5,14 +5,14 @@ use mathlib.Core.Path.{_≡_, refl, sym, _∙_, ap}
 use mathlib.Core.List.{List, [], _∷_, _++_}
 use lib.ListN.{getD, List·getD-append}
 use Rattle.laws.proofs.Tests.{by-order}
-use Rattle.laws.proofs.Lists.{all-nil, all-cons}
+use Rattle.laws.specs.Lists.{all-nil, all-cons}
 use Rattle.refusal.specs.Answer.{Answer, ok, no, andThen}
 use Rattle.codes.specs.Block.{Content}
-use Rattle.blocks.specs.Block.{flat, blockOf}
+use Rattle.blocks.specs.Block.{blockCount, flat, blockOf}
 use Rattle.blocks.proofs.Seals.{sealed-at}
 use Rattle.steps.specs.Book.{Book, newBook}
 use Rattle.steps.specs.Calls.{Call, Value, settle, bookRule, step}
-use Rattle.layout.specs.Layout.{draftBytes, front, back, indexBytes, blockBytes, bytesOf}
+use Rattle.layout.specs.Layout.{draftBytes, front, back, indexBytes, copiesFrom, beforesFrom, blockBytes, bytesOf}
 use Rattle.layout.specs.Sound.{closed-fine, Sound}
 use Rattle.layout.specs.Rule.{onBytes}
 use Rattle.layout.proofs.ForthIndex.{index-steps, index-mid, index-step}
@@ -67,14 +67,14 @@ module _ (b : Book) (sound : Sound b) where
       }
 
   -- their segment blocks
-  same-segments : (k : ℕ) → 1 ≤ k → k ≤ 8 → blockOf k (bytesOf (alone b)) ≡ blockOf k (bytesOf b)
+  same-segments : (k : ℕ) → 1 ≤ k → k < copiesFrom 0 → blockOf k (bytesOf (alone b)) ≡ blockOf k (bytesOf b)
   same-segments zero h g = absurd (omega arith)
   same-segments (suc n) h g =
       lies-segment (bytesOf (alone b)) (alone b) (bytes-lie (alone b) alone-sound) n (omega arith)
       ∙ sym (lies-segment (bytesOf b) b (bytes-lie b sound) n (omega arith))
 
   -- their step blocks
-  same-steps : (k : ℕ) → 17 ≤ k → k ≤ 48 → blockOf k (bytesOf (alone b)) ≡ blockOf k (bytesOf b)
+  same-steps : (k : ℕ) → beforesFrom 0 ≤ k → k < blockCount → blockOf k (bytesOf (alone b)) ≡ blockOf k (bytesOf b)
   same-steps k h g =
       let s : ℕ = (k - 17) / 2 in
       let j : ℕ = (k - 17) % 2 in

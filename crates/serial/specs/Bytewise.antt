@@ -3,8 +3,9 @@ use Prim.Native.Nat.{ℕ, _≤_, _<_}
 use mathlib.Core.Path.{_≡_}
 use mathlib.Core.List.{List, [], _∷_}
 use lib.ListN.{getD}
-use Rattle.blocks.specs.Block.{blockOf}
+use Rattle.blocks.specs.Block.{blockCount, blockOf}
 use Rattle.steps.specs.Calls.{Call}
+use Rattle.layout.specs.Layout.{copiesFrom, beforesFrom}
 use Rattle.layout.specs.Rule.{onBytes}
 use Rattle.steps.specs.Serial.{Event, calls, keptOf}
 
@@ -23,9 +24,9 @@ rerunBytes l h = runBytes l (calls (keptOf (runBytes l h .0)))
 pub record WholeBytes (l : List ℕ) (h : List Call) : Type 0 where
   -- "and so does every answer those drafts and undos got"
   pub answers : rerunBytes l h .0 ≡ keptOf (runBytes l h .0)
-  -- "The segments": the issue minute and the segment count in block 0, and blocks 1..8
+  -- "The segments": the issue minute and the segment count in block 0, and the blocks from 1 up to the drafts'
   pub front : (i : ℕ) → i < 8 → getD (blockOf 0 (rerunBytes l h .1)) i 0 ≡ getD (blockOf 0 (runBytes l h .1)) i 0
-  pub segments : (k : ℕ) → 1 ≤ k → k ≤ 8 → blockOf k (rerunBytes l h .1) ≡ blockOf k (runBytes l h .1)
-  -- "and the undo steps": bytes 24..509 of block 0, and blocks 17..48
+  pub segments : (k : ℕ) → 1 ≤ k → k < copiesFrom 0 → blockOf k (rerunBytes l h .1) ≡ blockOf k (runBytes l h .1)
+  -- "and the undo steps": bytes 24..509 of block 0, and the steps' blocks, up to the last
   pub index : (i : ℕ) → 24 ≤ i → i < 510 → getD (blockOf 0 (rerunBytes l h .1)) i 0 ≡ getD (blockOf 0 (runBytes l h .1)) i 0
-  pub steps : (k : ℕ) → 17 ≤ k → k ≤ 48 → blockOf k (rerunBytes l h .1) ≡ blockOf k (runBytes l h .1)
+  pub steps : (k : ℕ) → beforesFrom 0 ≤ k → k < blockCount → blockOf k (rerunBytes l h .1) ≡ blockOf k (runBytes l h .1)

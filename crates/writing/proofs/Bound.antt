@@ -8,7 +8,7 @@ use mathlib.Core.Option.{Option, none, some}
 use lib.ListN.{length, length-append}
 use lib.Dec.{eqb}
 use Rattle.laws.proofs.Tests.{by, apart, either-way}
-use Rattle.laws.proofs.Lists.{All, all-nil, all-cons}
+use Rattle.laws.specs.Lists.{All, all-nil, all-cons}
 use Rattle.refusal.specs.Numbers.{outOfRange}
 use Rattle.refusal.specs.Answer.{ok, refused}
 use Rattle.lines.specs.Bytes.{bytes}

@@ -1,6 +1,6 @@
 use native.Mathlib.Omega.{arith}
 use borrow.Author.Needs.{needs}
-use Rattle.blocks.proofs.Numbers.{Bytes}
+use Rattle.blocks.specs.Block.{Bytes}
 use Rattle.drafts.proofs.Opens.{ends-short, ends-unsound}
 use Rattle.drafts.proofs.Drops.{drop-shut, drop-from, drop-to, drop-does}
 use Rattle.drafts.proofs.drop.Statement.{statement}

@@ -1,6 +1,6 @@
 use native.Mathlib.Omega.{arith}
 use borrow.Author.Needs.{needs}
-use Rattle.blocks.proofs.Numbers.{Bytes}
+use Rattle.blocks.specs.Block.{Bytes}
 use Rattle.drafts.proofs.Opens.{ends-short, ends-unsound, open-none, open-from, open-to, open-does}
 use Rattle.drafts.proofs.open.Statement.{statement}
 use Rattle.drafts.proofs.open.Tie as tie

@@ -1,5 +1,5 @@
 use native.Mathlib.Omega.{arith}
-use Rattle.blocks.proofs.Numbers.{Bytes}
+use Rattle.blocks.specs.Block.{Bytes}
 use Rattle.copies.proofs.Ways.{admitting, working, load-long, load-block, load-few}
 use Rattle.drafts.proofs.CopyReads.{refused-read, absent-read, reads-past, reads-place}
 use borrow.Author.Needs.{needs}

@@ -1,6 +1,6 @@
 use native.Mathlib.Omega.{arith}
 use borrow.Author.Needs.{needs}
-use Rattle.blocks.proofs.Numbers.{Bytes}
+use Rattle.blocks.specs.Block.{Bytes}
 use Rattle.copies.proofs.Ways.{refused-does}
 use Rattle.drafts.proofs.Takes.{take-admitted, take-long, take-sound, take-from, take-to, take-segment-from, take-segment-to, take-again, take-full, take-does}
 use Rattle.drafts.proofs.take.Statement.{statement}

@@ -1,6 +1,6 @@
 use native.Mathlib.Omega.{arith}
 use mathlib.Core.Path.{sym, _∙_}
-use Rattle.blocks.proofs.Numbers.{Bytes}
+use Rattle.blocks.specs.Block.{Bytes}
 use Rattle.copies.proofs.Ways.{refused-does, admitting, ranging, working, load-long, load-block, load-few, absent-does}
 use Rattle.edits.proofs.Ways.{place-low, held-up, add-old, add-full, add-new}
 use borrow.Author.Needs.{needs}

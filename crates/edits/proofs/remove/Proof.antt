@@ -1,5 +1,5 @@
 use native.Mathlib.Omega.{arith}
-use Rattle.blocks.proofs.Numbers.{Bytes}
+use Rattle.blocks.specs.Block.{Bytes}
 use Rattle.copies.proofs.Ways.{refused-does, admitting, ranging, working, load-long, load-block, load-few, absent-does}
 use Rattle.edits.proofs.Ways.{place-low, held-up, remove-none, remove-only, remove-old}
 use borrow.Author.Needs.{needs}

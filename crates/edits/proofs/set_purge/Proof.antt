@@ -1,8 +1,7 @@
 use lib.ListN.{length}
-use Rattle.blocks.specs.Block.{bookLength}
+use Rattle.blocks.specs.Block.{bookLength, Bytes}
 use native.Mathlib.Omega.{arith}
 use mathlib.Core.Path.{_≡_, _∙_}
-use Rattle.blocks.proofs.Numbers.{Bytes}
 use Rattle.copies.proofs.Ways.{admitting, ranging, working, load-long, load-block, load-few}
 use Rattle.edits.proofs.Ways.{tested-does, tested-absent, minute-low, purge-none, purge-some}
 use borrow.Author.Needs.{needs}

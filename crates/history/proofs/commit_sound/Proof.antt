@@ -1,6 +1,6 @@
 use borrow.Author.Needs.{needs}
 use native.Mathlib.Omega.{arith}
-use Rattle.blocks.proofs.Numbers.{Bytes}
+use Rattle.blocks.specs.Block.{Bytes}
 use Rattle.history.proofs.CommitRule.{first-low, second-low, steps-low, found-placed, commit-low, commit-high, commit-shut, commit-stale, commit-done}
 use Rattle.history.proofs.commit_sound.Statement.{statement}
 use Rattle.history.proofs.commit_sound.Tie as tie

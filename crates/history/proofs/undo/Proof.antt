@@ -2,7 +2,7 @@ use borrow.Author.Needs.{needs}
 use mathlib.Core.Path.{refl, sym, ap, _∙_}
 use native.Mathlib.Omega.{arith}
 use borrow.Author.Tests.{not-true, not-false}
-use Rattle.blocks.proofs.Numbers.{Bytes}
+use Rattle.blocks.specs.Block.{Bytes}
 use Rattle.layout.specs.Rule.{paperReply}
 use Rattle.steps.specs.Calls.{undo}
 use Rattle.layout.proofs.Rules.{does-short, does-unsound}

@@ -1,9 +1,8 @@
 use borrow.Author.Needs.{needs}
 use native.Mathlib.Omega.{arith}
 use mathlib.Core.Path.{sym, subst}
-use Rattle.blocks.specs.Block.{blockCount}
-use Rattle.blocks.proofs.Numbers.{Bytes}
-use Rattle.history.specs.Changing.{Placed}
+use Rattle.blocks.specs.Block.{blockCount, Bytes}
+use Rattle.history.specs.Changing.{AllPlaced}
 use Rattle.history.proofs.UndoSteps.{step-placed}
 use Rattle.history.proofs.UndoBooks.{back-count, step-gone}
 use Rattle.history.proofs.undo_step.Statement.{statement}
@@ -16,7 +15,7 @@ replace-requires : tie.Need-replace-requires
 replace-requires c κs =
     let at-step-at = c .before in
     let start = at-step-at .before .before .before in
-    (search needs, subst (Placed blockCount) (sym (at-step-at .step-at .ensures)) (step-placed (start .args .book .now) (start .args .r) (start .pre .1)))
+    (search needs, subst (AllPlaced blockCount) (sym (at-step-at .step-at .ensures)) (step-placed (start .args .book .now) (start .args .r) (start .pre .1)))
 
 pop-step-requires : tie.Need-pop-step-requires
 unfolding Bytes

@@ -2,7 +2,7 @@ use Prim.Native.Nat.{_-_}
 use native.Mathlib.Omega.{arith}
 use borrow.Author.Needs.{needs}
 use Rattle.codes.specs.Places.{upward}
-use Rattle.laws.proofs.Tables.{every}
+use Rattle.laws.specs.Lists.{every}
 use Rattle.layout.specs.Tests.{isStepAt}
 use Rattle.layout.proofs.Tests.{Scan, scan-start, scan-end, scan-no, scan-on}
 use Rattle.layout.proofs.are_steps.Statement.{statement}

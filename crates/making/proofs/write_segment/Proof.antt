@@ -1,6 +1,6 @@
 use Rattle.making.proofs.Writing.{write-low, write-far, write-block, write-few, write-one}
 use native.Mathlib.Omega.{arith}
-use Rattle.blocks.proofs.Numbers.{Bytes}
+use Rattle.blocks.specs.Block.{Bytes}
 use borrow.Author.Needs.{needs}
 use Rattle.making.proofs.write_segment.Statement.{statement}
 use Rattle.making.proofs.write_segment.Tie as tie
