@@ -25,7 +25,7 @@ use Rattle.bulletin.specs.Bulletin.{readBulletin}
 use Rattle.bulletin.specs.Seen.{unread, segmentsFor, segmentsHeld, Sized}
 use Rattle.bulletin.specs.Listing.{seenOf, seenFrom, listedBy, paperListed}
 use Rattle.bulletin.specs.KeptBy.{keptFrom}
-use Rattle.bulletin.specs.Report.{Report, reported, reportOf, paperBulletin, segmentsSaid, Reads}
+use Rattle.bulletin.specs.Report.{Report, reported, reportOf, paperBulletin, segmentsReported, Reads}
 use Rattle.bulletin.specs.Below.{someSeen, listedOf, headOf, belowTop, belowOf, refusedFor, Answers}
 use Rattle.bulletin.specs.Front.{paperStormed, paperStart, textChecked, Above, topOf, paperTopped}
 use Rattle.bulletin.specs.declared.Segment.{Segment}
@@ -199,7 +199,7 @@ module _ (s : List ℕ) (year month : ℕ) (ks d : List ℕ) (v : Verdict) (ev :
 -- ---- the promise
 pub answers-reads : (s : List ℕ) (year month : ℕ) (ks d : List ℕ) (b : Bulletin) → Answers s (reported (readBulletin s year month)) ks d b → Reads s year month b
 answers-reads s year month ks d b v =
-    record { says = v .says; segments = v .segments ∙ ap (λ (x : Answer Report). segmentsFor (segmentsSaid x)) (v .says) }
+    record { says = v .says; segments = v .segments ∙ ap (λ (x : Answer Report). segmentsFor (segmentsReported x)) (v .says) }
 
 pub answers-sized : (s : List ℕ) (x : Answer Report) (ks d : List ℕ) (b : Bulletin) → Answers s x ks d b → Sized (b .segments)
 answers-sized s x ks d b v = v .sized

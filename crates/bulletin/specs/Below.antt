@@ -18,7 +18,7 @@ use Rattle.bulletin.specs.Segments.{fromLine3, segmentsFrom, most}
 use Rattle.bulletin.specs.Seen.{segmentsFor, segmentsHeld, Sized}
 use Rattle.bulletin.specs.Listing.{seenOf, seenFrom}
 use Rattle.bulletin.specs.KeptBy.{keptFrom}
-use Rattle.bulletin.specs.Report.{Report, reportOf, paperBulletin, segmentsSaid}
+use Rattle.bulletin.specs.Report.{Report, reportOf, paperBulletin, segmentsReported}
 use Rattle.bulletin.specs.declared.Segment.{Segment}
 use Rattle.bulletin.specs.declared.Top.{Top}
 use Rattle.bulletin.specs.declared.Head.{Head}
@@ -51,6 +51,6 @@ refusedFor r = record { reading = reading.Refused r; segments = segmentsFor [] }
 -- an answer that says this, with its array; if it is accepted, the places of its segments are kept in the lent numbers
 pub record Answers (text : List ℕ) (said : Answer Report) (before after : List ℕ) (b : Bulletin) : Type 0 where
   pub says : paperBulletin b ≡ said
-  pub segments : b .segments ≡ segmentsFor (segmentsSaid (paperBulletin b))
+  pub segments : b .segments ≡ segmentsFor (segmentsReported (paperBulletin b))
   pub sized : Sized (b .segments)
   pub kept : (h : Head) → b .reading ≡ reading.Accepted h → after ≡ keptFrom text (h .issue) 0 (segmentsHeld (b .segments)) before

@@ -39,11 +39,11 @@ abbrev pub paperBulletin : Bulletin → Answer Report
 paperBulletin b = readingOf (b .reading) (b .segments)
 
 -- ---- the promise of reading
-abbrev pub segmentsSaid : Answer Report → List Segment
-segmentsSaid (ok r) = r .segments
-segmentsSaid (no number place) = []
+abbrev pub segmentsReported : Answer Report → List Segment
+segmentsReported (ok r) = r .segments
+segmentsReported (no number place) = []
 
 -- what the answer says, and the array of its segments: on a refusal none
 pub record Reads (text : List ℕ) (year month : ℕ) (b : Bulletin) : Type 0 where
   pub says : paperBulletin b ≡ reported (rule.readBulletin text year month)
-  pub segments : b .segments ≡ segmentsFor (segmentsSaid (reported (rule.readBulletin text year month)))
+  pub segments : b .segments ≡ segmentsFor (segmentsReported (reported (rule.readBulletin text year month)))
