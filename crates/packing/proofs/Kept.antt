@@ -7,12 +7,13 @@ use mathlib.Core.Bool.{true, false, _&&_}
 use mathlib.Core.List.{List, [], _∷_}
 use mathlib.Core.Option.{Option, none, some}
 use lib.ListN.{length}
-use lib.Dec.{leb, eqb}
-use borrow.Author.Tests.{leb-true, ne-eqb}
+use lib.Dec.{leb, ltb, eqb}
+use borrow.Author.Tests.{leb-true, ltb-true, ne-eqb}
 use Rattle.laws.proofs.Tests.{impossible, and-left, and-right}
 use Rattle.laws.specs.Lists.{All, all-cons}
-use Rattle.refusal.specs.Numbers.{Reason, numberOf, wrongLength, wrongText, wrongHeading, wrongIdentifier, wrongTime, wrongBlock, noSegment, noEnd, ninthSegment, wrongStorm, tooManyPlaces, notSound, noDraft, allOpen, noSuchSegment, notTaken, takenAlready, twoTaken, segmentFull, onlyPlace, staleDraft, noStep, outputShort, outOfRange}
+use Rattle.refusal.specs.Numbers.{Reason, numberOf}
 use Rattle.refusal.specs.Answer.{Answer, ok, no, refused}
+use Rattle.refusal.proofs.OneToOne.{number-byte}
 use Rattle.blocks.proofs.Numbers.{low-byte, high-part}
 use Rattle.lines.specs.Bytes.{exactly}
 use Rattle.steps.specs.Calls.{changed}
@@ -43,10 +44,6 @@ back bits value (no reason place) (kept-no low high h) =
     let z : eqb reason 0 ≡ false = ne-eqb reason 0 (omega arith) in
     rw (cell-low reason place high, cell-rest reason place h, z)
 
--- the refusals' numbers are 1..24
-reason-low : (r : Reason) → (leb 1 (numberOf r) && leb (numberOf r) 24) ≡ true
-reason-low = elim [ wrongLength ↦ refl | wrongText ↦ refl | wrongHeading ↦ refl | wrongIdentifier ↦ refl | wrongTime ↦ refl | wrongBlock ↦ refl | noSegment ↦ refl | noEnd ↦ refl | ninthSegment ↦ refl | wrongStorm ↦ refl | tooManyPlaces ↦ refl | notSound ↦ refl | noDraft ↦ refl | allOpen ↦ refl | noSuchSegment ↦ refl | notTaken ↦ refl | takenAlready ↦ refl | twoTaken ↦ refl | segmentFull ↦ refl | onlyPlace ↦ refl | staleDraft ↦ refl | noStep ↦ refl | outputShort ↦ refl | outOfRange ↦ refl ]
-
 -- a byte that is not 0
 pub record Byte (b : ℕ) : Type 0 where
   pub from : 1 ≤ b
@@ -55,8 +52,7 @@ pub record Byte (b : ℕ) : Type 0 where
 pub reason-byte : (r : Reason) → Byte (numberOf r)
 reason-byte r =
     let n = numberOf r in
-    let high : n ≤ 24 = leb-true n 24 (and-right (leb 1 n) (leb n 24) (reason-low r)) in
-    record { from = leb-true 1 n (and-left (leb 1 n) (leb n 24) (reason-low r)); below = omega arith }
+    record { from = leb-true 1 n (and-left (leb 1 n) (ltb n 256) (number-byte r)); below = ltb-true n 256 (and-right (leb 1 n) (ltb n 256) (number-byte r)) }
 
 pub refused-kept : {A : Type 0} (bits : A → ℕ) (value : ℕ → A) (r : Reason) (place : ℕ) → place < restEnd → Kept bits value (refused r place)
 refused-kept bits value r place h = kept-no (reason-byte r .from) (reason-byte r .below) h

@@ -1,4 +1,4 @@
--- Document 01, "Numbered refusals": the table's rows by name, and the number of each.
+-- Document 01, "Numbered refusals", and what document 02 adds: the table's rows by name, and the number of each.
 use Prim.Native.Nat.{ℕ}
 
 pub data Reason : Type 0 where
@@ -50,6 +50,8 @@ pub data Reason : Type 0 where
   outputShort : Reason
   -- a place, DD, HH, MM or index handed in out of range
   outOfRange : Reason
+  -- the text does not belong to the book (document 02, R-1)
+  notBelonging : Reason
 
 abbrev pub numberOf : Reason → ℕ
 numberOf wrongLength = 1
@@ -76,3 +78,4 @@ numberOf staleDraft = 21
 numberOf noStep = 22
 numberOf outputShort = 23
 numberOf outOfRange = 24
+numberOf notBelonging = 27

@@ -1,4 +1,4 @@
-// The numbered refusals of document 01. No other crate writes a refusal's number.
+// The numbered refusals of documents 01 and 02. No other crate writes a refusal's number.
 pub const WRONG_LENGTH: usize = 1;
 
 pub const WRONG_TEXT: usize = 2;
@@ -46,6 +46,8 @@ pub const NO_STEP: usize = 22;
 pub const OUTPUT_SHORT: usize = 23;
 
 pub const OUT_OF_RANGE: usize = 24;
+
+pub const NOT_BELONGING: usize = 27;
 
 pub struct Refusal {
     pub number: usize,
