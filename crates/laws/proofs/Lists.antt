@@ -14,6 +14,15 @@ pub all-append : {A : Type 0} {P : A → Type 0} {l m : List A} → All P l → 
 all-append all-nil b = b
 all-append (all-cons p a) b = all-cons p (all-append a b)
 
+-- of what stands before and of what stands behind
+pub all-left : {A : Type 0} {P : A → Type 0} (l m : List A) → All P (l ++ m) → All P l
+all-left [] m a = all-nil
+all-left (x ∷ l) m (all-cons p a) = all-cons p (all-left l m a)
+
+pub all-right : {A : Type 0} {P : A → Type 0} (l m : List A) → All P (l ++ m) → All P m
+all-right [] m a = a
+all-right (x ∷ l) m (all-cons p a) = all-right l m a
+
 pub all-map : {A : Type 0} {P Q : A → Type 0} {l : List A} → ((x : A) → P x → Q x) → All P l → All Q l
 all-map f all-nil = all-nil
 all-map f (all-cons {x} p a) = all-cons (f x p) (all-map f a)

@@ -96,11 +96,11 @@ first-from text stop rs e =
     from-line3 text (pastMnd (linesOf text)) past stop (later (later (linesOf text))) third rs e
 
 -- one segment or more
-record Some (gs hs : List Segment) : Type 0 where
-  same : gs ≡ hs
-  one : 1 ≤ length hs
+pub record Some (gs hs : List Segment) : Type 0 where
+  pub same : gs ≡ hs
+  pub one : 1 ≤ length hs
 
-some-same : (stop : ℕ) (gs hs : List Segment) → oneOrMore stop gs ≡ ok hs → Some gs hs
+pub some-same : (stop : ℕ) (gs hs : List Segment) → oneOrMore stop gs ≡ ok hs → Some gs hs
 some-same stop [] hs e = apart cc
 some-same stop (g ∷ gs) hs e = let p = ok-one (g ∷ gs) hs e in record { same = p; one = subst (λ (l : List Segment). 1 ≤ length l) p (omega arith) }
 

@@ -2,16 +2,16 @@
 use Prim.Native.Nat.{ℕ, suc, _-_, _≤_, _<_}
 use native.Mathlib.Omega.{arith}
 use mathlib.Core.Path.{_≡_, refl}
-use mathlib.Core.Bool.{true}
+use mathlib.Core.Bool.{Bool, true, false}
 use mathlib.Core.List.{List, map}
 use mathlib.Core.Option.{Option, none, some}
 use lib.ListN.{length, length-map}
 use borrow.Author.Tests.{lt-ltb}
-use Rattle.laws.proofs.Tests.{by, apart}
+use Rattle.laws.proofs.Tests.{apart}
 use Rattle.laws.proofs.Lists.{all-map}
 use Rattle.laws.specs.Lists.{All, all-nil, all-cons}
 use Rattle.refusal.specs.Numbers.{Reason, wrongTime}
-use Rattle.refusal.specs.Answer.{ok, refused, must}
+use Rattle.refusal.specs.Answer.{ok, must}
 use Rattle.calendar.specs.Calendar.{yearOf, monthOfYear, issueMonths, isIssueMonth, startOf, minuteOf, stampAfter, monthOf, dateIn, dateOf}
 use Rattle.calendar.specs.declared.Date.{Date}
 use Rattle.calendar.proofs.Laws.{start-mono, month-some, minute-date, issue-true}
@@ -26,11 +26,9 @@ use Rattle.making.specs.Make.{bookFrom}
 use Rattle.making.proofs.Made.{Stands, read-back, segmented}
 
 -- ---- the issue
-must-true : (reason : Reason) (place : ℕ) (year month : ℕ) → must (isIssueMonth year month) reason place ≡ ok tt → isIssueMonth year month ≡ true
-must-true reason place year month e =
-    by (isIssueMonth year month)
-    (λ t. t)
-    (λ t. let f : refused reason place ≡ ok tt = rw t at e in apart cc)
+pub must-true : (t : Bool) (reason : Reason) (place : ℕ) → must t reason place ≡ ok tt → t ≡ true
+must-true true reason place e = refl
+must-true false reason place e = apart cc
 
 issued-some : (o : Option ℕ) (t : ℕ) → issued o ≡ ok t → o ≡ some t
 issued-some none t e = apart cc
@@ -49,12 +47,17 @@ date-before d t e h = go (monthOf t) refl (minute-date d t e)
         let low : suc k ≤ issueMonths = omega arith in
         omega (arith, month-some t k q .high, start-mono (suc k) issueMonths low)
 
--- the issue of a bulletin that is read is of the years 1970..2099
+-- the issue of a bulletin that is read has the year and the month under which it was read,
+pub made-dated : (text : List ℕ) (year month : ℕ) (b : Bulletin) (e : readBulletin text year month ≡ ok b)
+    → dateOf (b .issue) ≡ some (record { year = year; month = month; stamp = read-back text year month b e .stamp })
+made-dated text year month b e = minute-date _ (b .issue) (issued-some _ (b .issue) (read-back text year month b e .dated))
+
+-- and is of the years 1970..2099
 pub made-issue : (text : List ℕ) (year month : ℕ) (b : Bulletin) → readBulletin text year month ≡ ok b → isIssue (b .issue) ≡ true
 unfolding isIssue
 made-issue text year month b e =
     let r = read-back text year month b e in
-    let i = issue-true year month (must-true wrongTime 0 year month (r .known)) in
+    let i = issue-true year month (must-true (isIssueMonth year month) wrongTime 0 (r .known)) in
     lt-ltb (b .issue) (startOf issueMonths)
     (date-before (record { year = year; month = month; stamp = r .stamp }) (b .issue) (issued-some _ (b .issue) (r .dated)) (i .to))
 

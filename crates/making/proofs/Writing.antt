@@ -13,7 +13,7 @@ use Rattle.refusal.specs.Answer.{Answer, ok, no, refused, refusalFor, andThen}
 use Rattle.codes.specs.Places.{capacity}
 use Rattle.codes.specs.Block.{Content}
 use Rattle.writing.specs.Write.{writtenBlock, fitting, writeRule, lengthOf, outputOf, paperWritten, Writes}
-use Rattle.writing.specs.Pen.{blockMost}
+use Rattle.writing.specs.Pen.{writtenBlockMost}
 use Rattle.writing.proofs.Bound.{block-most}
 use Rattle.writing.specs.declared.Written.{Written}
 use Rattle.writing.specs.declared.Written.the-variants as written
@@ -48,7 +48,7 @@ pub record SegmentBlock (b : Book) (s : ℕ) (c : Content) : Type 0 where
   pub given : writtenBlock (c .places) (c .purge) ≡ ok block
 
 -- In a sound book each segment that exists has its block: the writer's 24 is never met,
-segment-block : (l : List ℕ) → Bytes l → isSound l ≡ true → (s : ℕ) (c : Content) → at (bookOf l .segments) s ≡ some c → SegmentBlock (bookOf l) s c
+pub segment-block : (l : List ℕ) → Bytes l → isSound l ≡ true → (s : ℕ) (c : Content) → at (bookOf l .segments) s ≡ some c → SegmentBlock (bookOf l) s c
 unfolding segmentBlock
 segment-block l y e s c q =
     let f = all-stands (bookOf l .segments) s c (sound-book l y e .contents) q .is in
@@ -71,21 +71,21 @@ segment-blocked l y e s = go (at (bookOf l .segments) s) refl
     go none q = no-segment q (no-block (bookOf l) s q)
     go (some c) q = a-segment c q (segment-block l y e s c q)
 
--- No block of a segment has more than 2,048 bytes.
-pub segment-most : (b : Book) (s : ℕ) (block : List ℕ) → segmentBlock b s ≡ some block → length block ≤ blockMost
+-- No block of a segment has more than 1,216 bytes.
+pub segment-most : (b : Book) (s : ℕ) (block : List ℕ) → segmentBlock b s ≡ some block → length block ≤ writtenBlockMost
 unfolding segmentBlock
 segment-most b s block e = go (at (b .segments) s) e
   where
-    given : (c : Content) (a : Answer (List ℕ)) → writtenBlock (c .places) (c .purge) ≡ a → blockGiven a ≡ some block → length block ≤ blockMost
+    given : (c : Content) (a : Answer (List ℕ)) → writtenBlock (c .places) (c .purge) ≡ a → blockGiven a ≡ some block → length block ≤ writtenBlockMost
     given c (ok x) q f = let same : x ≡ block = cc in rw (← same) (block-most (c .places) (c .purge) x q)
     given c (no number place) q f = apart cc
 
-    go : (o : Option Content) → contentForm o ≡ some block → length block ≤ blockMost
+    go : (o : Option Content) → contentForm o ≡ some block → length block ≤ writtenBlockMost
     go none f = apart cc
     go (some c) f = given c (writtenBlock (c .places) (c .purge)) refl f
 
 -- where there is a block, only the room for it is asked
-rule-block : (room : ℕ) (c : Content) (block : List ℕ) → writtenBlock (c .places) (c .purge) ≡ ok block → writeRule room (c .places) (c .purge) ≡ fitting room block
+pub rule-block : (room : ℕ) (c : Content) (block : List ℕ) → writtenBlock (c .places) (c .purge) ≡ ok block → writeRule room (c .places) (c .purge) ≡ fitting room block
 unfolding writeRule andThen
 rule-block room c block e = rw e
 

@@ -17,7 +17,7 @@ use Rattle.calendar.specs.declared.Stamp.{Stamp}
 use Rattle.codes.specs.Places.{prefixOf, threeOf, twoBytes, threeBytes, prefixBytes, prefixes, placesEnd}
 use Rattle.codes.specs.Elements.{covers, purge, numbers, time, short, said}
 use Rattle.codes.specs.Written.{newPrefix, upTo, Run, elementOf, purgeElement, writtenMost}
-use Rattle.writing.proofs.Bound.{element-brief, purge-brief}
+use Rattle.writing.proofs.Bound.{element-most, purge-most}
 use Rattle.roundtrip.proofs.Split.{Word, ends, byte}
 
 -- ---- digits and letters
@@ -155,10 +155,10 @@ word-purge s = word-two (s .day) (word-two (s .hour) (word-two (s .minute) ends)
 
 -- ---- no element is longer than a line
 pub element-short : (last : Option ℕ) (r : Run) → length (elementOf last r) ≤ writtenMost
-element-short last r = omega (arith, element-brief last r)
+element-short last r = omega (arith, element-most last r)
 
 pub purge-short : (s : Stamp) → length (purgeElement s) ≤ writtenMost
-purge-short s = omega (arith, purge-brief s)
+purge-short s = omega (arith, purge-most s)
 
 -- ---- a line that starts with a whole element opens a block
 opens-bytes : (p n y : ℕ) (t : List ℕ) → p < prefixes → n < 1000 → oneOf "->" y ≡ true → opens (prefixBytes p ++ (threeBytes n ++ (y ∷ t))) ≡ true

@@ -76,7 +76,7 @@ line-start at (all-cons (byte h w) ws) = refl
 pub body-joined : {l : List (List ℕ)} → All Word l → bodyOf (inOrder l ++ crcrlf) ≡ inOrder l
 body-joined ws = body-line (joined-high ws)
 
-line-elements : {e : List ℕ} {l : List (List ℕ)} → All Word (e ∷ l) → (at : ℕ) → elementsOfBody at (bodyOf (inOrder (e ∷ l) ++ crcrlf)) ≡ elementsAt at (e ∷ l)
+pub line-elements : {e : List ℕ} {l : List (List ℕ)} → All Word (e ∷ l) → (at : ℕ) → elementsOfBody at (bodyOf (inOrder (e ∷ l) ++ crcrlf)) ≡ elementsAt at (e ∷ l)
 line-elements {e} {l} ws at = ap (elementsOfBody at) (body-joined ws) ∙ line-start at ws ∙ ap (elementsAt at) (pieces-joined ws)
 
 -- ---- wrapping: on this line or on the next

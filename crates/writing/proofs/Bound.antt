@@ -1,4 +1,4 @@
--- A written block has at most 2,048 bytes. Assumes nothing.
+-- A written block has at most 1,216 bytes. Assumes nothing.
 use Prim.Native.Nat.{ℕ, zero, suc, _+_, _*_, _/_, _%_, _≤_}
 use native.Mathlib.Omega.{arith}
 use mathlib.Core.Path.{_≡_, refl, ap, _∙_}
@@ -8,7 +8,6 @@ use mathlib.Core.Option.{Option, none, some}
 use lib.ListN.{length, length-append}
 use lib.Dec.{eqb}
 use Rattle.laws.proofs.Tests.{by, apart, either-way}
-use Rattle.laws.specs.Lists.{All, all-nil, all-cons}
 use Rattle.refusal.specs.Numbers.{outOfRange}
 use Rattle.refusal.specs.Answer.{ok, refused}
 use Rattle.lines.specs.Bytes.{bytes}
@@ -16,34 +15,35 @@ use Rattle.calendar.specs.Calendar.{dateOf}
 use Rattle.calendar.specs.declared.Date.{Date}
 use Rattle.calendar.specs.declared.Stamp.{Stamp}
 use Rattle.codes.specs.Places.{prefixBytes, threeBytes, isSet}
-use Rattle.codes.specs.Written.{newPrefix, upTo, Run, joins, join, runsOf, parted, spansOf, elementOf, elementsOf, purgeElement, blockElements, fits, written}
+use Rattle.codes.specs.Written.{newPrefix, upTo, Run, single, joins, join, runsOf, parted, spansOf, elementOf, elementsOf, purgeElement, blockElements, fits, written}
 use Rattle.codes.proofs.Sets.{set-true}
 use Rattle.writing.specs.Ink.{inkFrom}
-use Rattle.writing.specs.Pen.{elementMost, inkMost, blockMost}
+use Rattle.writing.specs.Pen.{writtenBlockMost}
 use Rattle.writing.specs.Write.{datedBlock, writtenBlock}
 use Rattle.writing.proofs.Ink.{ink-start, ink-end, ink-on, ink-next}
 
--- ---- an element
-abbrev pub Brief : List ℕ → Type 0
-Brief e = length e ≤ elementMost
+-- ---- an element: 7 bytes at most, `SSFnnn-`, and 11 where it is a range
+headed-most : (last : Option ℕ) (p n : ℕ) (t : List ℕ) → length t ≤ n → length (newPrefix last p ++ t) ≤ 3 + n
+headed-most none p n t h = omega arith
+headed-most (some q) p n t h = either-way (λ (x : List ℕ). length (x ++ t) ≤ 3 + n) (eqb q p) {x = []} {y = prefixBytes p} (omega arith) (omega arith)
 
-headed-brief : (last : Option ℕ) (p : ℕ) (t : List ℕ) → length t ≤ 8 → Brief (newPrefix last p ++ t)
-headed-brief none p t h = omega arith
-headed-brief (some q) p t h = either-way (λ (x : List ℕ). Brief (x ++ t)) (eqb q p) {x = []} {y = prefixBytes p} (omega arith) (omega arith)
+tail-most : (n k : ℕ) → length (threeBytes n ++ (upTo n k ++ bytes "-")) ≤ 8
+tail-most n zero = omega arith
+tail-most n (suc k) = omega arith
 
-tail-brief : (n k : ℕ) → length (threeBytes n ++ (upTo n k ++ bytes "-")) ≤ 8
-tail-brief n zero = omega arith
-tail-brief n (suc k) = omega arith
-
-pub element-brief : (last : Option ℕ) (r : Run) → Brief (elementOf last r)
+single-most : (last : Option ℕ) (p : ℕ) → length (elementOf last (single p)) ≤ 7
 unfolding elementOf
-element-brief last r = headed-brief last (r .first / 1000) _ (tail-brief (r .first % 1000) (r .more))
+single-most last p = headed-most last (p / 1000) 4 _ (omega arith)
 
-pub purge-brief : (s : Stamp) → Brief (purgeElement s)
+pub element-most : (last : Option ℕ) (r : Run) → length (elementOf last r) ≤ 11
+unfolding elementOf
+element-most last r = headed-most last (r .first / 1000) 8 _ (tail-most (r .first % 1000) (r .more))
+
+pub purge-most : (s : Stamp) → length (purgeElement s) ≤ 7
 unfolding purgeElement
-purge-brief s = omega arith
+purge-most s = omega arith
 
--- ---- there are no more elements than places
+-- ---- the places of runs
 unfoldable sizeOf : List Run → ℕ
 sizeOf [] = 0
 sizeOf (r ∷ rs) = suc (r .more) + sizeOf rs
@@ -58,49 +58,49 @@ unfolding sizeOf runsOf
 runs-size [] = refl
 runs-size (p ∷ ps) = join-size p (runsOf ps) ∙ ap suc (runs-size ps)
 
-parted-size : (p n : ℕ) → length (parted p n) ≤ suc n
-parted-size p zero = omega arith
-parted-size p (suc zero) = omega arith
-parted-size p (suc (suc n)) = omega arith
+-- ---- the bytes of elements, each of which may begin a line: three more for the end of the line before it
+unfoldable inkOf : List (List ℕ) → ℕ
+inkOf [] = 0
+inkOf (e ∷ es) = length e + 3 + inkOf es
 
-spans-size : (rs : List Run) → length (spansOf rs) ≤ sizeOf rs
-unfolding sizeOf spansOf
-spans-size [] = omega arith
-spans-size (r ∷ rs) = omega (arith, parted-size (r .first) (r .more), spans-size rs, length-append (parted (r .first) (r .more)) (spansOf rs))
+-- ten for each place at most: a range has three places or more
+module _ (k : ℕ) (es : List (List ℕ)) (rs : List Run) (h : (last : Option ℕ) → inkOf (elementsOf last rs ++ es) ≤ k) where
+  parted-ink : (last : Option ℕ) (p n : ℕ) → inkOf (elementsOf last (parted p n ++ rs) ++ es) ≤ 10 * suc n + k
+  unfolding inkOf elementsOf
+  parted-ink last p zero = omega (arith, single-most last p, h (some (p / 1000)))
+  parted-ink last p (suc zero) = omega (arith, single-most last p, single-most (some (p / 1000)) (suc p), h (some (suc p / 1000)))
+  parted-ink last p (suc (suc n)) = omega (arith, element-most last (record { first = p; more = suc (suc n) }), h (some (p / 1000)))
 
--- the elements of spans, and the purge
-record Elements (n : ℕ) (es : List (List ℕ)) : Type 0 where
-  brief : All Brief es
-  few : length es ≤ n
+purge-ink : (s : Stamp) → inkOf (purgeElement s ∷ []) ≤ 10
+unfolding inkOf
+purge-ink s = omega (arith, purge-most s)
 
-spans-elements : (s : Stamp) (last : Option ℕ) (rs : List Run) → Elements (suc (length rs)) (elementsOf last rs ++ (purgeElement s ∷ []))
-unfolding elementsOf
-spans-elements s last [] = record { brief = all-cons (purge-brief s) all-nil; few = omega arith }
-spans-elements s last (r ∷ rs) =
-    let v = spans-elements s (some (r .first / 1000)) rs in
-    record { brief = all-cons (element-brief last r) (v .brief); few = omega (arith, v .few) }
+spans-ink : (s : Stamp) (rs : List Run) (last : Option ℕ) → inkOf (elementsOf last (spansOf rs) ++ (purgeElement s ∷ [])) ≤ 10 * sizeOf rs + 10
+unfolding spansOf elementsOf sizeOf
+spans-ink s [] last = purge-ink s
+spans-ink s (r ∷ rs) last = omega (arith, parted-ink (10 * sizeOf rs + 10) (purgeElement s ∷ []) (spansOf rs) (spans-ink s rs) last (r .first) (r .more))
 
--- ---- the text: each element may begin a line, and the last line ends
-ink-most : (n : ℕ) {es : List (List ℕ)} → All Brief es → length (inkFrom n es) ≤ 3 + inkMost * length es
-ink-most n all-nil = rw (ink-end n) (omega arith)
-ink-most n (all-cons {x = e} {xs = es} b bs) =
+-- ---- the text, whose last line ends
+ink-most : (n : ℕ) (es : List (List ℕ)) → length (inkFrom n es) ≤ 3 + inkOf es
+unfolding inkOf
+ink-most n [] = rw (ink-end n) (omega arith)
+ink-most n (e ∷ es) =
     by (fits n e)
-    (λ q. rw (ink-on n e es q) (omega (arith, b, length-append e (inkFrom (n + length e) es), ink-most (n + length e) bs)))
-    λ q. rw (ink-next n e es q) (omega (arith, b, length-append e (inkFrom (length e) es), ink-most (length e) bs))
+    (λ q. rw (ink-on n e es q) (omega (arith, length-append e (inkFrom (n + length e) es), ink-most (n + length e) es)))
+    λ q. rw (ink-next n e es q) (omega (arith, length-append e (inkFrom (length e) es), ink-most (length e) es))
 
--- What is written of a segment's places has at most 2,048 bytes,
-pub written-most : (ps : List ℕ) (s : Stamp) → isSet ps ≡ true → length (written ps s) ≤ blockMost
+-- What is written of a segment's places has at most 1,216 bytes,
+pub written-most : (ps : List ℕ) (s : Stamp) → isSet ps ≡ true → length (written ps s) ≤ writtenBlockMost
 unfolding written blockElements
 written-most ps s e =
-    let v = spans-elements s none (spansOf (runsOf ps)) in
-    rw (ink-start (elementsOf none (spansOf (runsOf ps)) ++ (purgeElement s ∷ [])))
-    (omega (arith, ink-most 0 (v .brief), v .few, spans-size (runsOf ps), runs-size ps, set-true ps e .few))
+    let es : List (List ℕ) = elementsOf none (spansOf (runsOf ps)) ++ (purgeElement s ∷ []) in
+    rw (ink-start es) (omega (arith, ink-most 0 es, spans-ink s (runsOf ps) none, runs-size ps, set-true ps e .few))
 
 -- and so has every block that the rule of writing gives.
-pub block-most : (ps : List ℕ) (minute : ℕ) (block : List ℕ) → writtenBlock ps minute ≡ ok block → length block ≤ blockMost
+pub block-most : (ps : List ℕ) (minute : ℕ) (block : List ℕ) → writtenBlock ps minute ≡ ok block → length block ≤ writtenBlockMost
 unfolding writtenBlock
 block-most ps minute block e = by (isSet ps) (λ q. go q (dateOf minute) (rw q at e)) λ q. let f : refused outOfRange 0 ≡ ok block = rw q at e in apart cc
   where
-    go : isSet ps ≡ true → (o : Option Date) → datedBlock ps o ≡ ok block → length block ≤ blockMost
+    go : isSet ps ≡ true → (o : Option Date) → datedBlock ps o ≡ ok block → length block ≤ writtenBlockMost
     go q none f = apart cc
     go q (some d) f = let g : written ps (d .stamp) ≡ block = cc in rw (← g) (written-most ps (d .stamp) q)

@@ -78,9 +78,13 @@ pub record Closed (a b : List ℕ) (s : State) (stamp : Stamp) (r : ℕ) : Type 
   pub far : r ≤ s .pen .pos + closeMost
 
 -- ---- the block
--- 120 places never make more bytes
+-- room to compose it in
 abbrev pub blockMost : ℕ
 blockMost = 2048
+
+-- 120 places never make more bytes: ten for each, the purge, and the last line's end
+abbrev pub writtenBlockMost : ℕ
+writtenBlockMost = 1216
 
 -- the text stands at the front of the bytes a, "and later bytes stay"
 pub record Composed (a b text : List ℕ) (r : ℕ) : Type 0 where
