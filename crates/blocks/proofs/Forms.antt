@@ -41,16 +41,17 @@ slice-zero f t l k z =
     let g : f + i < t = omega arith in
     getD-drop f (take t l) i 0 ∙ getD-take t l (f + i) 0 g ∙ z (f + i) (omega arith) g)
 
--- a part is zeros if both its parts are
-pub zero-split : (f m t : ℕ) (l : List ℕ) → f ≤ m → m ≤ t → t ≤ length l → (allZero (slice f m l) && allZero (slice m t l)) ≡ allZero (slice f t l)
-zero-split f m t l h k n =
+-- a part is zeros if both its parts are, which may have bytes in common
+pub zero-join : (f n m t : ℕ) (l : List ℕ) → f ≤ n → n ≤ m → m ≤ t → t ≤ length l
+    → (allZero (slice f m l) && allZero (slice n t l)) ≡ allZero (slice f t l)
+zero-join f n m t l h j k w =
     let front = allZero (slice f m l) in
-    let back = allZero (slice m t l) in
+    let back = allZero (slice n t l) in
     same-test (front && back) (allZero (slice f t l))
-    (λ e. slice-zero f t l n
-    (λ i p q. by-order i m (λ r. zero-in f m l (and-left front back e) i p r) (λ r. zero-in m t l (and-right front back e) i r q)))
+    (λ e. slice-zero f t l w
+    (λ i p q. by-order i m (λ r. zero-in f m l (and-left front back e) i p r) (λ r. zero-in n t l (and-right front back e) i (omega arith) q)))
     (λ e. let z : (i : ℕ) → f ≤ i → i < t → getD l i 0 ≡ 0 = zero-in f t l e in
-    rw (slice-zero f m l (omega arith) (λ i p q. z i p (omega arith)), slice-zero m t l n (λ i p q. z i (omega arith) q)))
+    rw (slice-zero f m l (omega arith) (λ i p q. z i p (omega arith)), slice-zero n t l w (λ i p q. z i (omega arith) q)))
 
 -- a list of zeros is that many zeros
 pub zeros-ext : (m : ℕ) (l : List ℕ) → length l ≡ m → ((i : ℕ) → i < m → getD l i 0 ≡ 0) → l ≡ replicate m 0

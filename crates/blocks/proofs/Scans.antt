@@ -30,7 +30,7 @@ summed-start b from to h = record { left = h; total = add-zero (sumTo from b); s
 pub term-small : (i x : ℕ) → i < 510 → x < 256 → (i + 1) * x ≤ 130050
 term-small i x h k = mul-le-mul {n₁ = i + 1} {m₁ = x} {n₂ = 510} {m₂ = 255} (omega arith) (omega arith)
 
-sum-more : (i : ℕ) (b : List ℕ) → sumTo (i + 1) b ≡ sumTo i b + (i + 1) * getD b i 0
+pub sum-more : (i : ℕ) (b : List ℕ) → sumTo (i + 1) b ≡ sumTo i b + (i + 1) * getD b i 0
 unfolding sumTo
 sum-more i b = rw add-one
 

@@ -1,5 +1,5 @@
 -- An unused block: zeros, whose check is 1. Its test, one that is made, and a book whose blocks all are. Assumes nothing.
-use mathlib.Core.Path.{_≡_, refl, sym, ap, _∙_}
+use mathlib.Core.Path.{_≡_, refl, sym, ap, ap₂, _∙_}
 use mathlib.Core.Bool.{Bool, true, false, _&&_, and-true, and-false}
 use mathlib.Core.List.{List}
 use mathlib.Core.Option.{none}
@@ -14,7 +14,7 @@ use Rattle.laws.proofs.Tests.{by-order, same-test, and-left, and-right}
 use Rattle.blocks.specs.Block.{blockLength, blockCount, bookLength, sumTo, checkOf, sealed, checked, allZero, blockOf}
 use Rattle.blocks.specs.Content.{holding}
 use Rattle.blocks.specs.Good.{isUnused}
-use Rattle.blocks.proofs.Forms.{zero-in, zeros-ext}
+use Rattle.blocks.proofs.Forms.{zero-in, zero-join, zeros-ext}
 use Rattle.blocks.proofs.Blocks.{block-length, byte-of, set-block, put-same-block, put-other-block}
 
 -- ---- the check of zeros
@@ -41,12 +41,18 @@ one-in low high =
     let q : high ≡ 0 = eqb-true high 0 (and-right (eqb low 1) (eqb high 0) h) in
     eq-eqb 1 (low + 256 * high) (omega arith))
 
-pub unused-is : (b : List ℕ) (z : Bool) → z ≡ allZero (slice 0 510 b) → (z && eqb (getD b 510 0) 1 && eqb (getD b 511 0) 0) ≡ isUnused b
+unused-is : (b : List ℕ) (z : Bool) → z ≡ allZero (slice 0 510 b) → (z && eqb (getD b 510 0) 1 && eqb (getD b 511 0) 0) ≡ isUnused b
 unfolding isUnused checked
 unused-is b true e =
     let c : checkOf b ≡ 1 = check-zero b (λ i h. zero-in 0 510 b (sym e) i (omega arith) h) in
     sym (rw (c, ← e) (and-true (eqb 1 (getD b 510 0 + 256 * getD b 511 0)) ∙ one-in (getD b 510 0) (getD b 511 0)))
 unused-is b false e = sym (rw (← e) (and-false (checked b)))
+
+-- as the code asks it, in two parts
+pub unused-parts : (b : List ℕ) → length b ≡ blockLength → (f g : Bool) → f ≡ allZero (slice 0 480 b) → g ≡ allZero (slice 478 510 b)
+    → (f && g && eqb (getD b 510 0) 1 && eqb (getD b 511 0) 0) ≡ isUnused b
+unused-parts b h f g p q =
+    unused-is b (f && g) (ap₂ (λ (x y : Bool). x && y) p q ∙ zero-join 0 478 480 510 b (omega arith) (omega arith) (omega arith) (omega arith))
 
 -- ---- one that is made
 sealed-zero : (b : List ℕ) → ((i : ℕ) → i < 512 → getD b i 0 ≡ 0) → sealed b ≡ set b 510 1

@@ -14,7 +14,7 @@ use Rattle.calendar.specs.declared.Window.{Window}
 use Rattle.codes.specs.Places.{ascends, capacity}
 use Rattle.blocks.specs.Block.{blockLength, checked, numberAt, numbersOf, allZero}
 use Rattle.blocks.specs.Good.{isUsed}
-use Rattle.blocks.proofs.Forms.{zero-split}
+use Rattle.blocks.proofs.Forms.{zero-join}
 
 -- the tests in the code's order
 tests-join : (c g t r a p : Bool) → (c && g && t && r && a && p) ≡ (c && (true && true) && g && (r && t) && a && p)
@@ -42,6 +42,6 @@ module _ (b : List ℕ) (n : ℕ) (count : n ≡ getD b 4 0) where
         let one : leb 1 n ≡ true = le-leb 1 n some in
         let most : leb n capacity ≡ true = le-leb n capacity few in
         let zeros : (r && t) ≡ allZero (slice (8 + 4 * n) 510 b) =
-        rw (re, te) (zero-split (8 + 4 * n) 488 510 b (omega arith) (omega arith) (omega arith)) in
+        rw (re, te) (zero-join (8 + 4 * n) 488 488 510 b (omega arith) (omega arith) (omega arith) (omega arith)) in
         let purge : q ≡ isPurge issue (numberAt b 0) = qe ∙ window p ∙ ap (isPurge issue) pe in
         tests-join c g t r a q ∙ rw (← count, one, most, ← ce, ← ge, ← zeros, ← ae, ← purge)

@@ -136,13 +136,14 @@ pub fn is_used(b: &[u8], w: calendar::Window) -> bool
     checks & gap & tail & rest & places & purge
 }
 
-// Whether a block is an unused one: zeros and their check, which is 1.
+// Whether a block is an unused one: zeros and their check, which is 1. Both loops are made of whole vectors; two bytes are looked at twice.
 pub fn is_unused(b: &[u8]) -> bool
     requires { ⌜ length (now b) ≡ blockLength ⌝ }
     ensures { λ r. ⌜ r ≡ isUnused (now (b .entry)) ⌝ }
 {
-    let zero = all_zero(b, 0, 510);
-    zero & (b[510] == 1) & (b[511] == 0)
+    let front = all_zero(b, 0, 480);
+    let back = all_zero(b, 478, 510);
+    front & back & (b[510] == 1) & (b[511] == 0)
 }
 
 // Stores the check.
