@@ -1,0 +1,27 @@
+-- Document 02, R-1: "write the text with each segment's block replaced by the book's written form, every other byte kept".
+use Prim.Native.Nat.{ℕ}
+use mathlib.Core.List.{List, [], _∷_, _++_}
+use lib.ListN.{drop}
+use Rattle.refusal.specs.Answer.{Answer, ok, andThen}
+use Rattle.lines.specs.Spans.{part}
+use Rattle.codes.specs.Block.{Content}
+use Rattle.writing.specs.Write.{writtenBlock}
+use Rattle.bulletin.specs.Segments.{Segment}
+
+-- The text from a place on: its own bytes up to the next segment's block, the new block in place of the old one, and so on behind the old one's last line.
+-- Behind the last block, the text's own bytes.
+unfoldable pub editedFrom : ℕ → List ℕ → List Segment → List (List ℕ) → List ℕ
+editedFrom at text [] blocks = drop at text
+editedFrom at text (g ∷ gs) [] = drop at text
+editedFrom at text (g ∷ gs) (b ∷ blocks) = part text at (g .start) ++ (b ++ editedFrom (g .block) text gs blocks)
+
+abbrev pub edited : List ℕ → List Segment → List (List ℕ) → List ℕ
+edited text gs blocks = editedFrom 0 text gs blocks
+
+-- "the book's written form": that of each content, in order. The writer's 24 is never met in a sound book (`forms-given`).
+unfoldable pub writtenForms : List Content → Answer (List (List ℕ))
+writtenForms [] = ok []
+writtenForms (c ∷ cs) =
+    andThen (writtenBlock (c .places) (c .purge)) λ block.
+    andThen (writtenForms cs) λ blocks.
+    ok (block ∷ blocks)
