@@ -1,0 +1,14 @@
+pub mod WholeLines
+pub mod Inert
+pub mod OldBlock
+pub mod Fair
+pub mod Alike
+pub mod Ordered
+pub mod Replaced
+pub mod Replacing
+pub mod WrittenLines
+pub mod WrittenBlock
+pub mod Below
+pub mod ReadsEdited
+pub mod Demand
+pub mod Again

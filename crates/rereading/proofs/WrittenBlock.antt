@@ -1,0 +1,257 @@
+-- What is written of a set and a purge minute may stand in place of another block: its first line opens one, and it is read to its last. Assumes nothing.
+use Prim.Native.Nat.{ℕ, _+_, _≤_, _<_}
+use native.Mathlib.Omega.{arith}
+use mathlib.Core.Path.{_≡_, refl, sym, ap, _∙_, subst}
+use mathlib.Core.Bool.{true}
+use mathlib.Core.List.{List, [], _∷_, _++_, append-nil}
+use mathlib.Core.Option.{Option, none, some}
+use lib.ListN.{length, drop, length-append}
+use lib.Seq.{drop-append-seam}
+use borrow.Author.Tests.{le-leb}
+use Rattle.laws.proofs.Tests.{apart, impossible, and-left, and-right}
+use Rattle.laws.proofs.Lists.{all-append}
+use Rattle.laws.specs.Lists.{All, all-nil, all-cons}
+use Rattle.refusal.specs.Answer.{ok, andThen}
+use Rattle.lines.specs.Bytes.{lf}
+use Rattle.lines.specs.Lines.{pieces, bodyOf, opens, Line, linesAt, linesFrom}
+use Rattle.calendar.specs.Calendar.{isTime, dateOf}
+use Rattle.calendar.specs.declared.Date.{Date}
+use Rattle.calendar.specs.Purge.{isPurge, purgeOf}
+use Rattle.calendar.specs.declared.Stamp.{Stamp}
+use Rattle.calendar.proofs.Laws.{purge-own}
+use Rattle.codes.specs.Places.{capacity, Ascending, isSet}
+use Rattle.codes.specs.Elements.{Element, null, elementsAt, elementsOfLines, purge, wrong}
+use Rattle.codes.specs.Block.{Content, block, insertCovered, readFrom, readBlock, contentAt}
+use Rattle.codes.specs.Written.{runsOf, spansOf, blockElements, wrapped, inOrder, written}
+use Rattle.codes.proofs.Sets.{set-true}
+use Rattle.codes.proofs.Turns.{read-covers, read-purge}
+use Rattle.reading.specs.Placed.{placedAt}
+use Rattle.writing.specs.Write.{writtenBlock}
+use Rattle.roundtrip.proofs.Split.{crcrlf, endedLines}
+use Rattle.roundtrip.proofs.Runs.{spans-fine, words-spans, Reads, stops, goes}
+use Rattle.roundtrip.proofs.Round.{written-reads}
+use Rattle.roundtrip.proofs.Fit.{FitLine, short-spans, rendered-fit}
+use Rattle.roundtrip.proofs.RoundTrip.{written-opens}
+use Rattle.blocks.specs.Block.{flat}
+use Rattle.blocks.specs.Content.{isContent}
+use Rattle.sending.specs.Edited.{writtenForms}
+use Rattle.rereading.proofs.WholeLines.{Whole, pieces-joined}
+use Rattle.rereading.proofs.Inert.{InertLine, said-front, front-long}
+use Rattle.rereading.proofs.OldBlock.{pastIn, past-here, past-later}
+use Rattle.rereading.proofs.Fair.{Fair}
+use Rattle.rereading.proofs.Replaced.{FirstOpens, ReadAs, NewBlock, NewBlocks, no-more, one-more}
+use Rattle.rereading.proofs.WrittenLines.{Lined, elementsIn, wrapped-all, lined-elements, ended-whole, ended-inert, ended-fair, ended-joined, spans-lined}
+
+-- ---- the lines are read to the block, and the purge stands in the last of them
+module _ (stop : ℕ) (ps : List ℕ) (s : Stamp) where
+  -- reading goes on behind a line whose elements others follow
+  record Passed (last : Option ℕ) (got : List ℕ) (at : ℕ) (l : List (List ℕ)) (after : List Element) (more : List (List ℕ)) : Type 0 where
+    under : Option ℕ
+    so-far : List ℕ
+    reads : readFrom stop last got (elementsAt at l ++ after) ≡ readFrom stop under so-far after
+    left : Reads s ps under so-far more
+
+  abbrev element : ℕ → List ℕ → List (List ℕ) → Element
+  element at e es = record { at = at; bytes = e; last = null es }
+
+  passed : (l : List (List ℕ)) (at : ℕ) (after : List Element) (m : List ℕ) (more : List (List ℕ)) (last : Option ℕ) (got : List ℕ)
+      → Reads s ps last got (l ++ (m ∷ more)) → Passed last got at l after (m ∷ more)
+  unfolding elementsAt
+  passed [] at after m more last got r = record { under = last; so-far = got; reads = refl; left = r }
+  passed (e ∷ []) at after m more last got (goes p n k a r) =
+      record { under = some p; so-far = insertCovered p n k got; reads = read-covers stop last got (element at e []) after p n k a; left = r }
+  passed (e ∷ (x ∷ l)) at after m more last got (goes p n k a r) =
+      let i = passed (x ∷ l) (at + length e) after m more (some p) (insertCovered p n k got) r in
+      record {
+        under = i .under;
+        so-far = i .so-far;
+        reads = read-covers stop last got (element at e (x ∷ l)) (elementsAt (at + length e) (x ∷ l) ++ after) p n k a ∙ i .reads;
+        left = i .left;
+      }
+
+  -- and stops in the line that has the last one
+  record Stopped (last : Option ℕ) (got : List ℕ) (at : ℕ) (l : List (List ℕ)) (after : List Element) : Type 0 where
+    purge-at : ℕ
+    reads : readFrom stop last got (elementsAt at l ++ after) ≡ block ps s purge-at
+    low : at ≤ purge-at
+    high : purge-at < at + length (inOrder l)
+
+  stopped : {last : Option ℕ} {got : List ℕ} {l : List (List ℕ)} → Reads s ps last got l → (at : ℕ) (after : List Element) → Stopped last got at l after
+  unfolding elementsAt inOrder
+  stopped {last} {got} (stops {e} a q) at after =
+      let h : 1 ≤ length e = front-long e (said-front last e (λ w. let v : wrong ≡ purge s = sym w ∙ a in apart cc)) in
+      record {
+        purge-at = at;
+        reads = read-purge stop last got (element at e []) after s a ∙ ap (λ (y : List ℕ). block y s at) q;
+        low = omega arith;
+        high = omega (arith, length-append e []);
+      }
+  stopped {last} {got} (goes {e} {es} p n k a r) at after =
+      let i = stopped r (at + length e) after in
+      record {
+        purge-at = i .purge-at;
+        reads = read-covers stop last got (element at e es) (elementsAt (at + length e) es ++ after) p n k a ∙ i .reads;
+        low = omega (arith, i .low);
+        high = omega (arith, i .high, length-append e (inOrder es));
+      }
+
+  -- of all lines
+  record Ending (last : Option ℕ) (got : List ℕ) (at : ℕ) (ls : List (List (List ℕ))) (rest : List (List ℕ)) : Type 0 where
+    purge-at : ℕ
+    reads : readFrom stop last got (elementsOfLines (linesAt at (endedLines ls ++ rest))) ≡ block ps s purge-at
+    low : at ≤ purge-at
+    past : pastIn purge-at (linesAt at (endedLines ls ++ rest)) ≡ at + length (inOrder (endedLines ls))
+
+  not-lined : Lined [] → ⊥
+  not-lined l = elim l [ ]
+
+  ending : (l : List (List ℕ)) (ls : List (List (List ℕ))) → All Lined (l ∷ ls) → (last : Option ℕ) (got : List ℕ) → Reads s ps last got (elementsIn (l ∷ ls))
+      → (at : ℕ) (rest : List (List ℕ)) → Ending last got at (l ∷ ls) rest
+  unfolding elementsOfLines linesAt endedLines inOrder flat
+  ending l [] (all-cons w all-nil) last got r at rest =
+      let p : List ℕ = inOrder l ++ crcrlf in
+      let after : List Element = elementsOfLines (linesAt (at + length p) rest) in
+      let i = stopped (subst (Reads s ps last got) (append-nil l) r) at after in
+      record {
+        purge-at = i .purge-at;
+        reads = ap (λ (x : List Element). readFrom stop last got (x ++ after)) (lined-elements w at) ∙ i .reads;
+        low = i .low;
+        past = past-here (i .purge-at) at p rest (omega (arith, i .high, length-append (inOrder l) crcrlf)) ∙ omega (arith, length-append p []);
+      }
+  ending l ([] ∷ ls) (all-cons w (all-cons v ws)) last got r at rest = absurd (not-lined v)
+  ending l ((e ∷ es) ∷ ls) (all-cons w (all-cons v ws)) last got r at rest =
+      let p : List ℕ = inOrder l ++ crcrlf in
+      let q : List ℕ = inOrder (e ∷ es) ++ crcrlf in
+      let qs : List (List ℕ) = endedLines ls ++ rest in
+      let after : List Element = elementsOfLines (linesAt (at + length p) (q ∷ qs)) in
+      let i = passed l at after e (es ++ elementsIn ls) last got r in
+      let j = ending (e ∷ es) ls (all-cons v ws) (i .under) (i .so-far) (i .left) (at + length p) rest in
+      record {
+        purge-at = j .purge-at;
+        reads = ap (λ (x : List Element). readFrom stop last got (x ++ after)) (lined-elements w at) ∙ i .reads ∙ j .reads;
+        low = omega (arith, j .low);
+        past = past-later (j .purge-at) at p q qs (j .low) ∙ j .past ∙ omega (arith, length-append p (inOrder (endedLines ((e ∷ es) ∷ ls))));
+      }
+
+-- ---- the first line opens a block
+first-of : (ws : List (List ℕ)) (l : Line) (ls : List Line) → linesAt 0 ws ≡ l ∷ ls → opens (l .body) ≡ true → FirstOpens ws
+unfolding linesAt
+first-of [] l ls e o = apart cc
+first-of (w ∷ ws) l ls e o =
+    let same : record { start = 0; body = bodyOf w; next = 0 + length w } ≡ l = cc in
+    ap (λ (m : Line). opens (m .body)) same ∙ o
+
+-- ---- the written block
+-- its lines
+writtenLines : List ℕ → Stamp → List (List ℕ)
+writtenLines ps s = endedLines (wrapped (blockElements ps s))
+
+module _ (s : Stamp) (t : isTime s ≡ true) where
+  written-lined : {ps : List ℕ} → Ascending 0 ps → All Lined (wrapped (blockElements ps s))
+  unfolding blockElements
+  written-lined up = spans-lined s t (spans-fine up)
+
+  written-joined : (ps : List ℕ) → inOrder (writtenLines ps s) ≡ written ps s
+  unfolding writtenLines written
+  written-joined ps = ended-joined (wrapped (blockElements ps s))
+
+  written-whole : {ps : List ℕ} → Ascending 0 ps → All Whole (writtenLines ps s)
+  unfolding writtenLines
+  written-whole up = ended-whole (written-lined up)
+
+  written-pieces : (ps : List ℕ) → Ascending 0 ps → pieces lf (written ps s) ≡ writtenLines ps s
+  written-pieces ps up = ap (pieces lf) (sym (written-joined ps)) ∙ pieces-joined (written-whole up)
+
+  written-inert : {ps : List ℕ} → Ascending 0 ps → All InertLine (writtenLines ps s)
+  unfolding writtenLines
+  written-inert up = ended-inert (written-lined up)
+
+  written-fit : (ps : List ℕ) → All FitLine (linesFrom 0 (written ps s))
+  unfolding written blockElements
+  written-fit ps = rendered-fit 0 (words-spans s none (spansOf (runsOf ps))) (short-spans s none (spansOf (runsOf ps)))
+
+  written-fair : {ps : List ℕ} → Ascending 0 ps → All Fair (writtenLines ps s)
+  unfolding writtenLines
+  written-fair {ps} up = ended-fair 0 (written-lined up) (subst (λ (x : List (List ℕ)). All FitLine (linesAt 0 x)) (written-pieces ps up) (written-fit ps))
+
+  written-first : (ps : List ℕ) → Ascending 0 ps → 1 ≤ length ps → FirstOpens (writtenLines ps s)
+  written-first [] up h = impossible (omega arith)
+  written-first (p ∷ ps) up h =
+      let o = written-opens 0 p ps [] s up in
+      let e : pieces lf (written (p ∷ ps) s ++ []) ≡ writtenLines (p ∷ ps) s = ap (pieces lf) (append-nil (written (p ∷ ps) s)) ∙ written-pieces (p ∷ ps) up in
+      first-of (writtenLines (p ∷ ps) s) (o .line) (o .lines) (ap (linesAt 0) (sym e) ∙ o .are) (o .first)
+
+  -- wherever it stands, it is read back, to its last line
+  module _ (text front : List ℕ) (rest : List (List ℕ)) (ws : All Whole rest) (issue minute : ℕ) (ps : List ℕ) (up : Ascending 0 ps)
+      (e : text ≡ front ++ inOrder (writtenLines ps s ++ rest)) where
+    lines-there : pieces lf (drop (length front) text) ≡ writtenLines ps s ++ rest
+    lines-there =
+        ap (λ (x : List ℕ). pieces lf (drop (length front) x)) e
+        ∙ ap (pieces lf) (drop-append-seam front (inOrder (writtenLines ps s ++ rest)))
+        ∙ pieces-joined (all-append (written-whole up) ws)
+
+    there : Ending (length text) ps s none [] (length front) (wrapped (blockElements ps s)) rest
+    there =
+        ending (length text) ps s _ _ (written-lined up) none []
+        (subst (Reads s ps none []) (sym (wrapped-all (blockElements ps s))) (written-reads ps s up t)) (length front) rest
+
+    read-there : readBlock text (length front) ≡ block ps s (there .purge-at)
+    unfolding readBlock writtenLines
+    read-there = ap (λ (x : List (List ℕ)). readFrom (length text) none [] (elementsOfLines (linesAt (length front) x))) lines-there ∙ there .reads
+
+    written-back : length ps ≤ capacity → purgeOf issue s ≡ some minute
+        → ReadAs text issue (length front) (writtenLines ps s ++ rest) (record { purge = minute; places = ps }) (length (written ps s))
+    unfolding placedAt contentAt andThen writtenLines
+    written-back few given =
+        record {
+          purge-at = there .purge-at;
+          placed = rw (read-there, given, le-leb (length ps) capacity few);
+          past = there .past ∙ ap (λ (x : List ℕ). length front + length x) (written-joined ps);
+        }
+
+-- ---- the book's written forms
+-- the block of a content
+record Writes (issue : ℕ) (c : Content) : Type 0 where
+  block : List ℕ
+  given : writtenBlock (c .places) (c .purge) ≡ ok block
+  new : NewBlock issue c block
+
+block-given : (ps : List ℕ) (t : ℕ) (d : Date) → isSet ps ≡ true → dateOf t ≡ some d → writtenBlock ps t ≡ ok (written ps (d .stamp))
+unfolding writtenBlock
+block-given ps t d e f = rw (e, f)
+
+writes : (issue : ℕ) (c : Content) → isContent issue c ≡ true → Writes issue c
+unfolding isContent
+writes issue c e =
+    let ps : List ℕ = c .places in
+    let set : isSet ps ≡ true = and-left (isSet ps) (isPurge issue (c .purge)) e in
+    let v = set-true ps set in
+    let d = purge-own issue (c .purge) (and-right (isSet ps) (isPurge issue (c .purge)) e) in
+    let s : Stamp = d .date .stamp in
+    record {
+      block = written ps s;
+      given = block-given ps (c .purge) (d .date) set (d .dated);
+      new =
+          record {
+            lines = writtenLines ps s;
+            are = written-joined s (d .time) ps;
+            fair = written-fair s (d .time) (v .up);
+            inert = written-inert s (d .time) (v .up);
+            first = written-first s (d .time) ps (v .up) (v .one);
+            back = λ text front rest w t. written-back s (d .time) text front rest w issue (c .purge) ps (v .up) t (v .few) (d .given);
+          };
+    }
+
+-- of all contents: the writer's 24 is never met
+pub record AllWritten (issue : ℕ) (cs : List Content) : Type 0 where
+  pub blocks : List (List ℕ)
+  pub given : writtenForms cs ≡ ok blocks
+  pub new : NewBlocks issue cs blocks
+
+pub all-written : (issue : ℕ) {cs : List Content} → All (λ (c : Content). isContent issue c ≡ true) cs → AllWritten issue cs
+unfolding writtenForms andThen
+all-written issue all-nil = record { blocks = []; given = refl; new = no-more }
+all-written issue (all-cons {x = c} e es) =
+    let w = writes issue c e in
+    let r = all-written issue es in
+    record { blocks = w .block ∷ r .blocks; given = rw (w .given, r .given); new = one-more (w .new) (r .new) }

@@ -1,0 +1,1 @@
+// What the edited bulletin reads to: document 02, R-1. No code.
