@@ -25,6 +25,7 @@ extern "C" {
 #define HOLLGRIMSA_BOOK_LENGTH 25088 /* bytes of a book, exactly */
 #define HOLLGRIMSA_TEXT_MOST 16384   /* bytes of a bulletin, 1 up to this */
 #define HOLLGRIMSA_BLOCK_MOST 2048   /* no written block is longer */
+#define HOLLGRIMSA_EDITED_MOST 32768 /* no edited bulletin is longer: a text, and 8 blocks */
 #define HOLLGRIMSA_SEGMENTS_MOST 8   /* segments of a bulletin, 1 up to this */
 #define HOLLGRIMSA_PLACES_MOST 120   /* places of a segment, 1 up to this */
 #define HOLLGRIMSA_PLACES_END 1352000 /* places are the numbers below this */
@@ -59,8 +60,9 @@ enum hollgrimsa_refusal {
     HOLLGRIMSA_ONLY_PLACE = 20,       /* removing the only place */
     HOLLGRIMSA_STALE_DRAFT = 21,      /* commit of a stale draft */
     HOLLGRIMSA_NO_STEP = 22,          /* no step to undo */
-    HOLLGRIMSA_OUTPUT_SHORT = 23,     /* output shorter than the block */
-    HOLLGRIMSA_OUT_OF_RANGE = 24      /* a place, DD, HH, MM or index handed in is out of range */
+    HOLLGRIMSA_OUTPUT_SHORT = 23,     /* output shorter than what is to be written */
+    HOLLGRIMSA_OUT_OF_RANGE = 24,     /* a place, DD, HH, MM or index handed in is out of range */
+    HOLLGRIMSA_NOT_BELONGING = 27     /* the text does not belong to the book */
 };
 
 /* ---- an answer, unpacked
@@ -228,6 +230,16 @@ uint64_t hollgrimsa_undo(uint8_t *book, size_t book_length);
 /* Writes the block of a segment of the book to the front of the output, and answers its length; later bytes stay.
  * Refusals: 1; 12; 15; 23. */
 uint64_t hollgrimsa_write(const uint8_t *book, size_t book_length, uint64_t segment, uint8_t *out, size_t out_length);
+
+/* Writes the edited bulletin to the front of the output, and answers its length; later bytes stay. It is the text with the
+ * block of each segment, from its first byte through the line end behind its purge, replaced by the block that
+ * hollgrimsa_write writes of that segment of the book; every other byte is kept. Drafts and steps do not show.
+ *
+ * The text is read under the year and month of the book's issue. It belongs to the book if its issue minute and its number
+ * of segments are the book's. text_length + 8 * HOLLGRIMSA_BLOCK_MOST bytes are always enough, and so are
+ * HOLLGRIMSA_EDITED_MOST. A bulletin that grows past HOLLGRIMSA_TEXT_MOST is written too, where it fits, but no call reads it.
+ * Refusals: 1 (text or book); 12; the reader's, with their places; 27; 23. */
+uint64_t hollgrimsa_write_edited(const uint8_t *text, size_t text_length, const uint8_t *book, size_t book_length, uint8_t *out, size_t out_length);
 
 #ifdef __cplusplus
 }

@@ -1,4 +1,4 @@
-/* Reads a bulletin, edits its first segment in a draft, commits, undoes, and prints what it did.
+/* Reads a bulletin, edits its first segment in a draft, commits, writes the edited bulletin, undoes, and prints what it did.
  *
  * From the repository's root:
  *   rt staticlib plugin
@@ -15,6 +15,7 @@
 static uint8_t book[HOLLGRIMSA_BOOK_LENGTH];
 static uint8_t text[HOLLGRIMSA_TEXT_MOST + 1];
 static uint8_t block[HOLLGRIMSA_BLOCK_MOST];
+static uint8_t edited[HOLLGRIMSA_EDITED_MOST];
 
 /* The value of an answer; a refusal ends the program. */
 static uint64_t value(const char *call, uint64_t answer) {
@@ -60,12 +61,24 @@ static void print_reading(size_t length, uint64_t year, uint64_t month) {
     }
 }
 
+/* Written bytes, each line ended as on a terminal. */
+static void print_lines(const uint8_t *written, uint64_t n) {
+    for (uint64_t i = 0; i < n; i++)
+        if (written[i] != '\r')
+            putchar(written[i]);
+}
+
 static void print_block(const char *when) {
     uint64_t n = value("write", hollgrimsa_write(book, sizeof book, 1, block, sizeof block));
     printf("segment 1 %s: ", when);
-    for (uint64_t i = 0; i < n; i++)
-        if (block[i] != '\r')
-            putchar(block[i]);
+    print_lines(block, n);
+}
+
+/* The whole bulletin with the segments' blocks as the book has them, to be sent on. */
+static void print_edited(size_t length) {
+    uint64_t n = value("edited", hollgrimsa_write_edited(text, length, book, sizeof book, edited, sizeof edited));
+    printf("the edited bulletin has %u bytes:\n", (unsigned)n);
+    print_lines(edited, n);
 }
 
 static void print_changed(const char *call, uint64_t answer) {
@@ -105,6 +118,7 @@ int main(int argc, char **argv) {
 
     print_changed("commit", hollgrimsa_commit(book, sizeof book, draft));
     print_block("committed");
+    print_edited(length);
     print_changed("undo", hollgrimsa_undo(book, sizeof book));
     print_block("undone");
     printf("undoing again is refused: %u\n", hollgrimsa_refusal(hollgrimsa_undo(book, sizeof book)));

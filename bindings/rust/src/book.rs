@@ -2,7 +2,7 @@
 
 use std::fmt;
 
-use crate::{calls, Changed, Draft, Reason, Refusal, BLOCK_MOST, BOOK_LENGTH};
+use crate::{calls, Changed, Draft, Reason, Refusal, BLOCK_MOST, BOOK_LENGTH, EDITED_MOST};
 
 /// Where the book keeps its issue minute, segment count and step count.
 const ISSUE: usize = 0;
@@ -163,6 +163,60 @@ impl Book {
         let mut out = [0; BLOCK_MOST];
         let length = self.write(segment, &mut out)?;
         Ok(out[..length].iter().copied().map(char::from).collect())
+    }
+
+    /// Writes the edited bulletin to the front of the output; answers its
+    /// length. Later bytes stay.
+    ///
+    /// See [`edited`](Book::edited), which brings its own output.
+    ///
+    /// # Errors
+    /// The reader's refusals, 1 to 11, of the text under the year and month of
+    /// the book's issue; 27 where the text does not belong to the book; 23
+    /// where the output is shorter than the edited bulletin. [`EDITED_MOST`]
+    /// bytes are always enough, and so are `text.len()` and [`BLOCK_MOST`] for
+    /// each segment.
+    pub fn write_edited(&self, text: &[u8], out: &mut [u8]) -> Result<usize, Refusal> {
+        calls::write_edited(text, self.as_bytes(), out)
+    }
+
+    /// The edited bulletin of a text: the text with each segment's block, line
+    /// ends with it, replaced by what [`written`](Book::written) gives of that
+    /// segment. Every other byte is kept.
+    ///
+    /// The text is the one that the book was made of, or another with its
+    /// issue and as many segments. Every block is replaced, also where nobody
+    /// edited it; drafts and steps do not show. The edited bulletin reads to
+    /// what the book's segments hold, as long as it has not grown past
+    /// [`TEXT_MOST`](crate::TEXT_MOST) bytes.
+    ///
+    /// # Errors
+    /// The reader's refusals, 1 to 11, of the text under the year and month of
+    /// the book's issue; 27 where the text does not belong to the book.
+    ///
+    /// ```
+    /// use hollgrimsa::{Book, Reason};
+    ///
+    /// let text = b"FPUS51 KXYZ 240822\nZFPXYZ\nMDC003-242100-\nTEXT\n$$\n";
+    /// let mut book = Book::make(text, 2002, 4)?;
+    /// let mut draft = book.open()?;
+    /// draft.take(1)?;
+    /// draft.add(1, 630_005)?;
+    /// draft.commit()?;
+    ///
+    /// let edited = book.edited(text)?;
+    /// assert_eq!(edited, b"FPUS51 KXYZ 240822\nZFPXYZ\nMDC003-005-242100-\r\r\nTEXT\n$$\n");
+    /// assert_eq!(Book::make(&edited, 2002, 4)?.written(1)?, book.written(1)?);
+    ///
+    /// let later = b"FPUS51 KXYZ 240823\nZFPXYZ\nMDC003-242100-\nTEXT\n$$\n";
+    /// assert_eq!(book.edited(later).unwrap_err().reason, Reason::NotBelonging);
+    /// # Ok::<(), hollgrimsa::Refusal>(())
+    /// ```
+    pub fn edited(&self, text: &[u8]) -> Result<Vec<u8>, Refusal> {
+        let mut out = vec![0; EDITED_MOST];
+        let length = self.write_edited(text, &mut out)?;
+        out.truncate(length);
+        Ok(out)
     }
 }
 

@@ -224,3 +224,37 @@ pub fn write(book: &[u8], segment: u64, out: &mut [u8]) -> Result<usize, Refusal
         )
     })
 }
+
+/// Writes the edited bulletin to the front of the output; answers its length.
+/// Later bytes stay.
+///
+/// That is the text with each segment's block, line ends with it, replaced by
+/// the block that [`write`] writes of that segment of the book; every other
+/// byte is kept. The text is read under the year and month of the book's
+/// issue, and belongs to the book if its issue and its number of segments are
+/// the book's. Refusals: 1 (text or book); 12; the reader's, see [`issue`];
+/// 27; 23. No edited bulletin is longer than
+/// [`EDITED_MOST`](crate::EDITED_MOST).
+///
+/// ```
+/// use hollgrimsa::{calls, BOOK_LENGTH, EDITED_MOST};
+///
+/// let text = b"FPUS51 KXYZ 240822\nZFPXYZ\nMDC005-003-242100-\nTEXT\n$$\n";
+/// let (mut book, mut out) = ([0; BOOK_LENGTH], [0; EDITED_MOST]);
+/// calls::make(&mut book, text, 2002, 4)?;
+/// let length = calls::write_edited(text, &book, &mut out)?;
+/// assert!(out[..length].ends_with(b"ZFPXYZ\nMDC003-005-242100-\r\r\nTEXT\n$$\n"));
+/// # Ok::<(), hollgrimsa::Refusal>(())
+/// ```
+pub fn write_edited(text: &[u8], book: &[u8], out: &mut [u8]) -> Result<usize, Refusal> {
+    answer::length(unsafe {
+        sys::hollgrimsa_write_edited(
+            text.as_ptr(),
+            text.len(),
+            book.as_ptr(),
+            book.len(),
+            out.as_mut_ptr(),
+            out.len(),
+        )
+    })
+}

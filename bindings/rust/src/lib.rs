@@ -3,7 +3,8 @@
 //! A [`Bulletin`] is a view over a text that the core has read: heading,
 //! storm, segments with their places and purge times. A [`Book`] is made of a
 //! bulletin; [`Draft`]s change which places its segments name and when they
-//! purge; commits can be undone. What is wrong is answered with a [`Refusal`]:
+//! purge; commits can be undone. [`Book::edited`] gives the bulletin with what
+//! was committed, to be sent on. What is wrong is answered with a [`Refusal`]:
 //! its [`Reason`] and its place. A refused call changes nothing.
 //!
 //! Everything is done by the core, which is linked as a static library; each
@@ -24,6 +25,8 @@
 //!     for segment in changed {
 //!         print!("{}", book.written(segment.into())?);
 //!     }
+//!     let edited = book.edited(text)?;
+//!     assert!(edited.ends_with(b"VAZ053-054-250000-\r\r\nTEXT TWO\n$$\n"));
 //!     Ok(())
 //! }
 //! ```
@@ -55,6 +58,9 @@ pub const BOOK_LENGTH: usize = 25_088;
 pub const TEXT_MOST: usize = 16_384;
 /// No written block is longer.
 pub const BLOCK_MOST: usize = 2_048;
+/// No edited bulletin is longer: a text of [`TEXT_MOST`] bytes, and a block for
+/// each of 8 segments.
+pub const EDITED_MOST: usize = TEXT_MOST + SEGMENTS_MOST as usize * BLOCK_MOST;
 /// The most segments of a bulletin; the least is 1.
 pub const SEGMENTS_MOST: u64 = 8;
 /// The most places of a segment; the least is 1.

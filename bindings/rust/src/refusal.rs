@@ -29,7 +29,8 @@ macro_rules! reasons {
         }
 
         impl Reason {
-            /// The reasons that have a name, by their numbers from 1 on.
+            /// The reasons that have a name, by their numbers, ascending. Not
+            /// every number between has one.
             pub const ALL: &'static [Reason] = &[$(Reason::$name),*];
 
             /// Its number in the core's table.
@@ -106,10 +107,13 @@ reasons! {
     StaleDraft = 21: "the draft is stale",
     /// 22: there is no step to undo.
     NoStep = 22: "there is no step to undo",
-    /// 23: the output is shorter than the block.
-    OutputShort = 23: "the output is shorter than the block",
+    /// 23: the output is shorter than what is to be written.
+    OutputShort = 23: "the output is shorter than what is to be written",
     /// 24: a place, DD, HH, MM or index handed in is out of range.
     OutOfRange = 24: "a place, day, hour, minute or index is out of range",
+    /// 27: the text does not belong to the book: its issue or its number of
+    /// segments is another.
+    NotBelonging = 27: "the text does not belong to the book",
 }
 
 impl fmt::Display for Reason {
@@ -192,17 +196,17 @@ mod tests {
 
     #[test]
     fn numbers_go_both_ways() {
-        for (number, &reason) in (1..).zip(Reason::ALL) {
-            assert_eq!(reason.number(), number);
-            assert_eq!(Reason::from_number(number), Some(reason));
+        for &reason in Reason::ALL {
+            assert_eq!(Reason::from_number(reason.number()), Some(reason));
         }
+        assert!(Reason::ALL.is_sorted_by_key(|reason| reason.number()));
         assert_eq!(Reason::from_number(0), None);
     }
 
     #[test]
     fn an_unknown_number_is_kept() {
-        let first = Reason::ALL.len() as u8 + 1;
-        for number in first..=u8::MAX {
+        let named: Vec<u8> = Reason::ALL.iter().map(|reason| reason.number()).collect();
+        for number in (1..=u8::MAX).filter(|number| !named.contains(number)) {
             assert_eq!(Reason::from_number(number), Some(Reason::Unknown(number)));
             assert_eq!(Reason::Unknown(number).number(), number);
         }

@@ -92,4 +92,12 @@ extern "C" {
         out: *mut u8,
         out_length: usize,
     ) -> u64;
+    pub fn hollgrimsa_write_edited(
+        text: *const u8,
+        text_length: usize,
+        book: *const u8,
+        book_length: usize,
+        out: *mut u8,
+        out_length: usize,
+    ) -> u64;
 }

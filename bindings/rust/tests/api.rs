@@ -2,7 +2,7 @@
 
 mod plain;
 
-use hollgrimsa::{Book, Bulletin, Draft, Reason, Refusal, BLOCK_MOST, BOOK_LENGTH};
+use hollgrimsa::{Book, Bulletin, Draft, Reason, Refusal, BLOCK_MOST, BOOK_LENGTH, EDITED_MOST};
 
 const TEXT: &[u8] = b"FPUS51 KXYZ 240822 RRA\r\r\nZFPXYZ\r\r\n\r\r\nNWS X EP912004\r\r\n\r\r\n\
     MDC005-003-006>007-005-242100-\r\r\nTEXT ONE\r\r\n$$\r\r\n\
@@ -116,6 +116,60 @@ fn a_block_is_written_where_it_fits() {
     assert_eq!(book.write(2, &mut out), Ok(17));
     assert_eq!(&out[..18], b"VAZ053-250000-\r\r\nZ");
     assert_eq!(book.written(2).unwrap(), "VAZ053-250000-\r\r\n");
+}
+
+#[test]
+fn the_edited_bulletin_has_what_was_committed() {
+    let mut book = book();
+    let mut draft = book.open().unwrap();
+    draft.take(2).unwrap();
+    draft.add(2, 1_093_054).unwrap();
+    let unedited = draft.book().edited(TEXT).unwrap();
+    draft.commit().unwrap();
+    let edited = book.edited(TEXT).unwrap();
+
+    let shown = |bytes: &[u8]| String::from_utf8(bytes.to_vec()).unwrap();
+    let written = shown(TEXT).replace("MDC005-003-006>007-005-", "MDC003-005>007-");
+    assert_eq!(shown(&unedited), written);
+    assert_eq!(shown(&edited), written.replace("VAZ053-", "VAZ053-054-"));
+
+    let bulletin = Bulletin::read(&edited, 2002, 4).unwrap();
+    for segment in bulletin.segments() {
+        let block = book.written(segment.number()).unwrap();
+        assert_eq!(segment.block(), block.as_bytes());
+    }
+    let again = Book::make(&edited, 2002, 4).unwrap();
+    assert_eq!(again.edited(&edited), Ok(edited));
+}
+
+#[test]
+fn an_edited_bulletin_is_written_where_it_fits() {
+    let book = book();
+    let edited = book.edited(TEXT).unwrap();
+    let length = edited.len();
+    let mut out = [0x5A; EDITED_MOST];
+    let short = book.write_edited(TEXT, &mut out[..length - 1]);
+    assert_eq!(reason(short), Reason::OutputShort);
+    assert!(out.iter().all(|&byte| byte == 0x5A));
+    assert_eq!(book.write_edited(TEXT, &mut out), Ok(length));
+    assert_eq!(out[..length], edited);
+    assert!(out[length..].iter().all(|&byte| byte == 0x5A));
+}
+
+#[test]
+fn a_text_of_another_book_is_not_edited() {
+    let book = book();
+    let cut = TEXT.len() - b"VAZ053-250000-\r\r\nTEXT TWO\r\r\n$$\r\r\n".len();
+    assert_eq!(reason(book.edited(&TEXT[..cut])), Reason::NotBelonging);
+    let mut later = TEXT.to_vec();
+    later[17] = b'3';
+    let refusal = book.edited(&later).unwrap_err();
+    assert_eq!(refusal.reason, Reason::NotBelonging);
+    assert_eq!(refusal.offset(), None);
+    let refusal = book.edited(&TEXT[..TEXT.len() - 1]).unwrap_err();
+    assert_eq!(refusal.reason, Reason::WrongText);
+    assert_eq!(refusal.offset(), Some(TEXT.len() - 3));
+    assert_eq!(reason(book.edited(b"")), Reason::WrongLength);
 }
 
 #[test]

@@ -1,12 +1,12 @@
-//! Every refusal number, 1 to 24, with its place: bad input through the C
-//! interface, and the same from the plain implementation.
+//! Every refusal number, 1 to 24 and 27, with its place: bad input through the
+//! C interface, and the same from the plain implementation.
 
 mod plain;
 mod replay;
 mod sides;
 
 use replay::Calls;
-use sides::{Call, Core, Guarded, Pair, Plain, Reader, Tally};
+use sides::{Call, Core, Guarded, Pair, Plain, Reader, Tally, Text};
 
 const BOOK: usize = hollgrimsa::BOOK_LENGTH;
 const HEAD: &str = "FPUS51 KXYZ 240822\nZFPXYZ\n";
@@ -18,10 +18,12 @@ fn every_number_is_seen() {
     refuse_texts(&mut tally);
     refuse_books(&mut tally);
     refuse_calls(&mut tally);
-    tally.assert_seen("every refusal", 1..=24);
+    refuse_edited(&mut tally);
+    tally.assert_seen("every refusal", (1..=24).chain([27]));
 }
 
-/// Make refuses this text, in April 2002, with this number and place.
+/// Make refuses this text, in April 2002, with this number and place, and so
+/// does writing it out with a book of that month.
 fn refuse_text(text: &str, number: usize, place: usize, tally: &mut Tally) {
     let mut book = Guarded::filled(BOOK, 0xAA);
     let before = book.clone();
@@ -33,6 +35,9 @@ fn refuse_text(text: &str, number: usize, place: usize, tally: &mut Tally) {
     let view = Core.view(text.as_bytes(), 2002, 4, 1);
     assert_eq!(view, Err((number, place)), "{text:?}");
     assert!(book == before, "{text:?} is refused and changes a byte");
+    let edited = Call::WriteEdited(Text(text.as_bytes()));
+    let edited = Pair::new(&self::book()).perform(edited, 0, tally);
+    assert_eq!(edited, Err((number, place)), "{text:?}");
 }
 
 fn refuse_texts(tally: &mut Tally) {
@@ -65,11 +70,15 @@ fn refuse_texts(tally: &mut Tally) {
     assert_eq!(answer, Plain.head(late, 2003, 1));
 }
 
-/// A book of three segments, the second with 120 places.
+/// A bulletin of three segments, the second with 120 places.
+fn text() -> String {
+    format!("{HEAD}MDC001-242100-\n$$\nMDC001>120-242100-\n$$\nVAZ053-250000-\n$$\n")
+}
+
+/// Its book.
 fn book() -> Vec<u8> {
-    let text = format!("{HEAD}MDC001-242100-\n$$\nMDC001>120-242100-\n$$\nVAZ053-250000-\n$$\n");
     let mut book = vec![0xAA; BOOK];
-    Core.make(text.as_bytes(), 2002, 4, &mut book).unwrap();
+    Core.make(text().as_bytes(), 2002, 4, &mut book).unwrap();
     book
 }
 
@@ -88,12 +97,12 @@ fn refuse_books(tally: &mut Tally) {
 }
 
 /// Both sides refuse the call with this number and change no byte.
-fn refuse(pair: &mut Pair, call: Call, number: usize, tally: &mut Tally) {
+fn refuse(pair: &mut Pair, call: Call<'_>, number: usize, tally: &mut Tally) {
     let told = pair.perform(call, 16, tally);
     assert_eq!(told, Err((number, 0)), "{call:?}");
 }
 
-fn accept(pair: &mut Pair, calls: &[Call], tally: &mut Tally) {
+fn accept(pair: &mut Pair, calls: &[Call<'_>], tally: &mut Tally) {
     for &call in calls {
         let told = pair.perform(call, 2_000, tally);
         assert!(told.is_ok(), "{call:?}: {told:?}");
@@ -143,6 +152,34 @@ fn refuse_stale(pair: &mut Pair, tally: &mut Tally) {
     refuse(pair, Call::Commit(1), 21, tally);
     accept(pair, &[Call::Undo], tally);
     refuse(pair, Call::Commit(1), 21, tally);
+}
+
+/// What is wrong is found in this order: a length, the book, the text, what
+/// does not belong, the output.
+fn refuse_edited(tally: &mut Tally) {
+    let book = book();
+    let mut changed = book.clone();
+    changed[BOOK - 3] = 1;
+    let (book, changed) = (book.as_slice(), changed.as_slice());
+    let own = text();
+    let later = own.replacen("0822", "0823", 1);
+    let fewer = [HEAD, SEGMENT].concat();
+    let long = "X".repeat(16_385);
+    for (book, text, number) in [
+        (&book[1..], own.as_str(), 1),
+        (book, "", 1),
+        (changed, long.as_str(), 1),
+        (changed, "?", 12),
+        (changed, own.as_str(), 12),
+        (book, later.as_str(), 27),
+        (book, fewer.as_str(), 27),
+        (book, own.as_str(), 23),
+    ] {
+        let edited = Call::WriteEdited(Text(text.as_bytes()));
+        refuse(&mut Pair::new(book), edited, number, tally);
+    }
+    let edited = Call::WriteEdited(Text(own.as_bytes()));
+    accept(&mut Pair::new(book), &[edited], tally);
 }
 
 #[test]

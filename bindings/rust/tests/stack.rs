@@ -2,7 +2,7 @@
 
 use std::thread;
 
-use hollgrimsa::{calls, BLOCK_MOST, BOOK_LENGTH};
+use hollgrimsa::{calls, BOOK_LENGTH, EDITED_MOST};
 
 const STACK: usize = 64 * 1024;
 
@@ -14,7 +14,7 @@ const TEXT: &[u8] = b"FPUS51 KXYZ 240822\nZFPXYZ\n\nZONES\nNWS X AL042005\n\n\
 fn every_call_fits() {
     // Lent bytes are no part of the stack.
     let mut book = vec![0; BOOK_LENGTH];
-    let mut out = vec![0; BLOCK_MOST];
+    let mut out = vec![0; EDITED_MOST];
     thread::Builder::new()
         .stack_size(STACK)
         .spawn(move || {
@@ -22,6 +22,7 @@ fn every_call_fits() {
             work(&mut book);
             calls::write(&book, 1, &mut out).unwrap();
             calls::write_block(&mut out, &[0, 1, 2, 1_351_999], 0).unwrap();
+            calls::write_edited(TEXT, &book, &mut out).unwrap();
         })
         .unwrap()
         .join()

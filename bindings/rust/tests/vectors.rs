@@ -1,7 +1,10 @@
 //! Both sides against inputs with right answers.
 //!
-//! The inputs, cases-a and cases-b with endings `.in` and `.out`, are in the
-//! folder that HOLLGRIMSA_VECTORS names; without it they are skipped.
+//! The inputs, with endings `.in` and `.out`, are in the folder that
+//! HOLLGRIMSA_VECTORS names; without it they are skipped. cases-a and cases-b
+//! are of document 01; none of their lines begins `F` or `%`, so they print
+//! what they printed. level-01 has the lines of R-1 too. A request that
+//! changes what an older input prints leaves that input out here.
 
 mod plain;
 mod replay;
@@ -24,6 +27,11 @@ fn core_agrees_with_cases_b() {
 }
 
 #[test]
+fn core_agrees_with_level_01() {
+    compare("core", &Core, "level-01");
+}
+
+#[test]
 fn plain_agrees_with_cases_a() {
     compare("plain", &Plain, "cases-a");
 }
@@ -31,6 +39,26 @@ fn plain_agrees_with_cases_a() {
 #[test]
 fn plain_agrees_with_cases_b() {
     compare("plain", &Plain, "cases-b");
+}
+
+#[test]
+fn plain_agrees_with_level_01() {
+    compare("plain", &Plain, "level-01");
+}
+
+/// The lines `F n` and `% n`: the edited bulletin of the case's text and the
+/// book, and another text for the same case.
+#[test]
+fn edited_example_agrees() {
+    let input = b"2002 04\n00044\nFPUS51 KXYZ 240822\nZFPXYZ\nMDC001-242100-\n$$\n\
+        F 46\nF 45\nF 50\nF 20000\nF 20001\nF\n\
+        % 55\nFPUS51 KXYZ 240822\nZFPXYZ\nMDC005-003-\n242100-\r\nTEXT\n$$\nF 60\n\
+        % 44\nFPUS51 KXYZ 240823\nZFPXYZ\nMDC001-242100-\n$$\nF 0\n\
+        % 3\nABCF 20000\n% 100000\nF 1\n% 0\nF 1\nE\nL 5\nF 1\n% 9\n12345678";
+    let output = "K\nF 46 51600\nR 23 0\nF 46 69060\nF 46 820985146\n?\n?\n\
+        !\nF 51 112647\n!\nR 27 0\n!\nR 2 3\n?\nR 2 3\n!\nR 1 0\nR 1 0\n!\nR 1 0\n?\n";
+    assert_eq!(replay(&Plain, input), output);
+    assert_eq!(replay(&Core, input), output);
 }
 
 #[test]

@@ -2,16 +2,16 @@
 use Prim.Native.Nat.{ℕ}
 use mathlib.Core.Path.{_≡_}
 use mathlib.Core.List.{List}
-use lib.ListN.{length}
 use Rattle.laws.proofs.One.{answer-one, Same}
-use Rattle.writing.specs.Write.{writeRule, lengthOf, outputOf}
+use Rattle.refusal.specs.Answer.{Answer}
+use Rattle.writing.specs.Write.{lengthOf, outputOf}
 use Rattle.bulletin.specs.Bulletin.{readBulletin}
 use Rattle.bulletin.specs.Report.{Report, reported}
 use Rattle.bulletin.specs.View.{viewOf}
 use Rattle.bulletin.specs.declared.Segment.{Segment}
 use Rattle.steps.specs.Calls.{Call}
 use Rattle.layout.specs.Rule.{onBytes}
-use Rattle.making.specs.Make.{makeRule, madeAnswer, madeBytes, writeOn}
+use Rattle.making.specs.Make.{makeRule, madeAnswer, madeBytes}
 use Rattle.packing.specs.Packing.{pack, packed, nothing, plain}
 use Rattle.plugin.specs.Rules.{placeIn}
 
@@ -29,17 +29,10 @@ module _ (l m n : List ℕ) (r s : ℕ) where
 pub read-call-one : (l : List ℕ) (c : Call) (r s : ℕ) → r ≡ packed (onBytes l c .0) → s ≡ packed (onBytes l c .0) → r ≡ s
 read-call-one l c r s a b = answer-one r s a b
 
--- ---- the writers, into an output
-module _ (out m n : List ℕ) (r s : ℕ) where
-  pub write-call-one : (l : List ℕ) (k : ℕ)
-      → r ≡ pack plain (lengthOf (writeOn l k (length out))) → m ≡ outputOf (writeOn l k (length out)) out
-      → s ≡ pack plain (lengthOf (writeOn l k (length out))) → n ≡ outputOf (writeOn l k (length out)) out → Same r s m n
-  write-call-one l k a x b y = record { answers = answer-one r s a b; bytes = answer-one m n x y }
-
-  pub write-block-call-one : (places : List ℕ) (purge : ℕ)
-      → r ≡ pack plain (lengthOf (writeRule (length out) places purge)) → m ≡ outputOf (writeRule (length out) places purge) out
-      → s ≡ pack plain (lengthOf (writeRule (length out) places purge)) → n ≡ outputOf (writeRule (length out) places purge) out → Same r s m n
-  write-block-call-one places purge a x b y = record { answers = answer-one r s a b; bytes = answer-one m n x y }
+-- ---- the writers, into an output: the rule of write, of write_block or of write_edited gave the answer
+pub writer-call-one : (out m n : List ℕ) (r s : ℕ) (a : Answer (List ℕ))
+    → r ≡ pack plain (lengthOf a) → m ≡ outputOf a out → s ≡ pack plain (lengthOf a) → n ≡ outputOf a out → Same r s m n
+writer-call-one out m n r s a e x f y = record { answers = answer-one r s e f; bytes = answer-one m n x y }
 
 -- ---- the reader: of a bulletin, of one of its segments, of one of its places
 module _ (text : List ℕ) (year month : ℕ) (r s : ℕ) where

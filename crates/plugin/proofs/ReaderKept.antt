@@ -1,4 +1,4 @@
--- No answer of the reader, of make and of the writer is lost in its packing. Assumes nothing.
+-- No answer of the reader, of make and of the writers is lost in its packing. Assumes nothing.
 use Prim.Native.Nat.{ℕ, zero, suc, _≤_, _<_}
 use native.Mathlib.Omega.{arith}
 use mathlib.Core.Path.{_≡_, refl}
@@ -8,11 +8,11 @@ use mathlib.Core.Option.{Option, none, some}
 use lib.ListN.{length, take, drop, getElem?, length-map}
 use lib.Dec.{leb, eqb}
 use borrow.Author.Tests.{leb-true}
-use Rattle.laws.proofs.Tests.{by, either-way, and-right}
+use Rattle.laws.proofs.Tests.{apart, by, either-way, and-right}
 use Rattle.laws.proofs.Lists.{all-each}
 use Rattle.laws.specs.Lists.{All, all-nil, all-cons}
-use Rattle.refusal.specs.Numbers.{wrongLength, wrongTime, notSound, noSuchSegment, outOfRange, outputShort}
-use Rattle.refusal.specs.Answer.{Answer, ok, no, andThen}
+use Rattle.refusal.specs.Numbers.{wrongLength, wrongTime, notSound, noSuchSegment, outOfRange, outputShort, notBelonging}
+use Rattle.refusal.specs.Answer.{Answer, ok, no, must, andThen}
 use Rattle.lines.specs.Lines.{linesOf}
 use Rattle.calendar.specs.Calendar.{isIssueMonth, minuteOf, dateOf}
 use Rattle.calendar.specs.declared.Date.{Date}
@@ -20,10 +20,10 @@ use Rattle.codes.specs.Places.{capacity, isSet}
 use Rattle.codes.specs.Block as codes
 use Rattle.heading.specs.Heading.{Heading}
 use Rattle.heading.specs.Storm.{StormName}
-use Rattle.writing.specs.Pen.{blockMost}
+use Rattle.writing.specs.Pen.{writtenBlockMost}
 use Rattle.writing.proofs.Bound.{written-most}
 use Rattle.writing.specs.Write.{datedBlock, writtenBlock, fitting, writeRule, lengthOf}
-use Rattle.blocks.specs.Block.{bookLength}
+use Rattle.blocks.specs.Block.{bookLength, Bytes}
 use Rattle.blocks.specs.Content.{isContent}
 use Rattle.blocks.proofs.Contents.{purge-32}
 use Rattle.steps.specs.Book.{Book, at}
@@ -43,7 +43,11 @@ use Rattle.bulletin.specs.View.{numbered, viewOf, partViewed}
 use Rattle.bulletin.specs.declared.Segment.{Segment}
 use Rattle.making.specs.Make.{bookFrom, makeRule, madeAnswer, orNoSegment, segmentBlock, writeOn}
 use Rattle.making.proofs.Writing.{segment-most}
-use Rattle.making.proofs.Sounding.{made-issue, made-count, made-fine}
+use Rattle.bulletin.proofs.Saying.{by-then}
+use Rattle.making.proofs.Sounding.{must-true, made-issue, made-count, made-fine}
+use Rattle.sending.specs.Send.{editedRule}
+use Rattle.rereading.specs.Demand.{EditedAnswer, other-length, unsound, unread, stranger, no-room, written-out}
+use Rattle.rereading.proofs.Demand.{edited-answers, edited-most}
 use Rattle.packing.specs.Packing.{pack, unpack, answered, packed, valueBits, nothing, noValue, plain, viewed, viewBits, viewBack, bbbBits, bbbBack, stormBits, stormBack}
 use Rattle.plugin.specs.Rules.{issueIn, countIn, bbbIn, identifierIn, stormBitsIn, viewBitsOf, blockEndOf, purgeMinuteOf, countOf, contentsOf, placeAnswer, placeIn}
 use Rattle.packing.proofs.Kept.{Kept, kept-ok, kept-no, back, refused-kept, Returns, part-back, small, view-low, view-back, Marked, bbb-low, storm-low, storm-back, Small}
@@ -256,7 +260,7 @@ module _ (l text : List ℕ) (year month : ℕ) where
 
 -- ---- the writer: a block is short
 abbrev Short : List ℕ → Type 0
-Short block = length block ≤ blockMost
+Short block = length block ≤ writtenBlockMost
 
 written-kept : (a : Answer (List ℕ)) → Low textMost Short a → Kept plain plain (lengthOf a)
 written-kept (ok _) (low-ok block k) = kept-ok (length block) (omega arith) refl
@@ -303,3 +307,31 @@ module _ (room : ℕ) where
 
   pub write-back : (l : List ℕ) (s : ℕ) → unpack plain (pack plain (lengthOf (writeOn l s room))) ≡ lengthOf (writeOn l s room)
   write-back l s = back plain plain (lengthOf (writeOn l s room)) (written-kept (writeOn l s room) (write-low l s))
+
+-- ---- a text that reads has at most 16,384 bytes
+text-short : (text : List ℕ) (year month : ℕ) (b : Bulletin) → readBulletin text year month ≡ ok b → length text ≤ textMost
+unfolding readBulletin
+text-short text year month b = by-then (must (isLength text) wrongLength 0) _ b λ _ t _. length-most text (must-true (isLength text) wrongLength 0 t)
+
+-- ---- the edited bulletin, of bytes that are lent as a book
+unread-kept : (why place : ℕ) (a : Answer Bulletin) → Low textMost Bounded a → a ≡ no why place → Kept plain plain (no why place)
+unread-kept why place (ok b) l e = apart cc
+unread-kept why place (no _ _) (low-no n p one most h) e =
+    let same : _≡_ {A = Answer Bulletin} (no n p) (no why place) = e in
+    let ns : n ≡ why = cc in
+    let ps : p ≡ place = cc in
+    rw (← ns, ← ps) (kept-no {reason = n} {place = p} one most (omega arith))
+
+edited-kept : (text l : List ℕ) (room : ℕ) → Bytes l → (a : Answer (List ℕ)) → EditedAnswer text l room a → editedRule text l room ≡ a → Kept plain plain (lengthOf a)
+edited-kept text l room y _ (other-length t) e = refused-kept plain plain wrongLength 0 (omega arith)
+edited-kept text l room y _ (unsound t) e = refused-kept plain plain notSound 0 (omega arith)
+edited-kept text l room y _ (unread d why place t f) e =
+    unread-kept why place (readBulletin text (d .year) (d .month)) (read-low text (d .year) (d .month)) f
+edited-kept text l room y _ (stranger d r t f g) e = refused-kept plain plain notBelonging 0 (omega arith)
+edited-kept text l room y _ (no-room out w h) e = refused-kept plain plain outputShort 0 (omega arith)
+edited-kept text l room y _ (written-out out w h) e =
+    let most = edited-most text l room out y e in
+    kept-ok (length out) (omega (arith, most, text-short text (w .date .year) (w .date .month) (w .read) (w .reads))) refl
+
+pub edited-back : (text l : List ℕ) (room : ℕ) → Bytes l → unpack plain (pack plain (lengthOf (editedRule text l room))) ≡ lengthOf (editedRule text l room)
+edited-back text l room y = back plain plain (lengthOf (editedRule text l room)) (edited-kept text l room y (editedRule text l room) (edited-answers text l room y) refl)

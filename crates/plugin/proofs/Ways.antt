@@ -11,6 +11,7 @@ use Rattle.steps.specs.Calls.{Call, BookAnswer}
 use Rattle.layout.specs.Rule.{onBytes, paperReply, Does}
 use Rattle.layout.specs.declared.Reply.{Reply}
 use Rattle.making.specs.Make.{makeRule, madeAnswer, madeBytes, Makes, writeOn, WritesOn}
+use Rattle.sending.specs.Send.{editedRule, WritesEdited}
 use Rattle.packing.specs.Packing.{pack, packed, nothing, plain}
 
 module _ (l m : List ℕ) (c : Call) (x : Reply) (r : ℕ) where
@@ -43,3 +44,10 @@ module _ (before after places : List ℕ) (minute : ℕ) (w : Written) (d : Writ
 
   pub block-left : after ≡ outputOf (writeRule (length before) places minute) before
   block-left = d .output
+
+module _ (text l before after : List ℕ) (w : Written) (d : WritesEdited text l before after w) where
+  pub edited-packed : (r : ℕ) → r ≡ pack plain (paperWritten w) → r ≡ pack plain (lengthOf (editedRule text l (length before)))
+  edited-packed r e = e ∙ ap (pack plain) (d .answer)
+
+  pub edited-left : after ≡ outputOf (editedRule text l (length before)) before
+  edited-left = d .output

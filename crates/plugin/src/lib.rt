@@ -11,6 +11,7 @@ ghost use Rattle.steps.specs.Calls.{on, taking, editing, readPurge, readCount, 
 ghost use Rattle.steps.specs.Calls as calls;
 ghost use Rattle.layout.specs.Rule.{onBytes, paperReply};
 ghost use Rattle.making.specs.Make.{makeRule, madeAnswer, madeBytes, writeOn};
+ghost use Rattle.sending.specs.Send.{editedRule};
 ghost use Rattle.packing.specs.Packing.{pack, packed, nothing, plain};
 ghost use Rattle.plugin.specs.Rules.{issueIn, countIn, bbbIn, identifierIn, stormBitsIn, viewBitsOf, blockEndOf, purgeMinuteOf, countOf, placeAnswer, placeIn};
 use bulletin::Reading;
@@ -144,6 +145,15 @@ pub extern "C" fn hollgrimsa_write(book: &[u8], s: u64, out: &mut [u8]) -> u64
     ensures left { λ _. ⌜ now (out .exit) ≡ outputOf (writeOn (now (book .entry)) s (length (now (out .entry)))) (now (out .entry)) ⌝ }
 {
     packing::pack_written(making::write(book, s as usize, out))
+}
+
+// Writes the edited bulletin of a text to the front of out, each segment's block replaced by the book's, and answers its length.
+#[no_mangle]
+pub extern "C" fn hollgrimsa_write_edited(text: &[u8], book: &[u8], out: &mut [u8]) -> u64
+    ensures is { λ r. ⌜ r ≡ pack plain (lengthOf (editedRule (now (text .entry)) (now (book .entry)) (length (now (out .entry))))) ⌝ }
+    ensures left { λ _. ⌜ now (out .exit) ≡ outputOf (editedRule (now (text .entry)) (now (book .entry)) (length (now (out .entry)))) (now (out .entry)) ⌝ }
+{
+    packing::pack_written(sending::write_edited(text, book, out))
 }
 
 // ---- the writer

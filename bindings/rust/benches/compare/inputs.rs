@@ -91,6 +91,8 @@ pub struct Books {
     /// Draft 1's copy of segment 1 is without the middle place.
     pub one_of_119: Vec<u8>,
     pub middle_place: u32,
+    /// Of the typical text, with one step.
+    pub typical: Vec<u8>,
 }
 
 impl Books {
@@ -113,6 +115,7 @@ impl Books {
                 assert_eq!(calls::remove(book, 1, 1, middle_place.into()), Ok(true));
             }),
             middle_place,
+            typical: typical_book(),
             full,
         }
     }
@@ -129,6 +132,16 @@ fn full_book() -> Vec<u8> {
     for draft in 0..4 {
         changed_draft(&mut book, 1 + 2 * draft, 26, 0);
     }
+    book
+}
+
+/// Segments 1 and 2 have another purge than in the typical text.
+fn typical_book() -> Vec<u8> {
+    let mut book = vec![0; BOOK_LENGTH];
+    let (year, month) = LENT;
+    calls::make(&mut book, &typical_text(), year, month).unwrap();
+    let draft = changed_draft(&mut book, 1, 26, 0);
+    assert_eq!(calls::commit(&mut book, draft).unwrap().len(), 2);
     book
 }
 

@@ -13,7 +13,7 @@ mod plain;
 use std::env;
 use std::hint::black_box;
 
-use hollgrimsa::{calls, BLOCK_MOST, BOOK_LENGTH, TEXT_MOST};
+use hollgrimsa::{calls, BLOCK_MOST, BOOK_LENGTH, EDITED_MOST, TEXT_MOST};
 use inputs::Books;
 use measure::Table;
 use plain::book::layout;
@@ -36,6 +36,9 @@ fn main() {
     edit_calls(&mut table, &books);
     history_calls(&mut table, &books);
     writing(&mut table, &books);
+    let [(long, long_text), (typical, typical_text), _] = &texts;
+    edited(&mut table, long, long_text, &books.full);
+    edited(&mut table, typical, typical_text, &books.typical);
     table.print();
 }
 
@@ -168,5 +171,15 @@ fn writing(table: &mut Table<'_>, books: &Books) {
             out[..block.len()].copy_from_slice(&block);
             Ok::<_, plain::Refusal>(block.len())
         },
+    );
+}
+
+/// The edited bulletin of a text and a book of it, into an output.
+fn edited(table: &mut Table<'_>, name: &str, text: &[u8], book: &[u8]) {
+    table.add(
+        &format!("write edited {name}"),
+        &[0; EDITED_MOST],
+        |out| calls::write_edited(black_box(text), black_box(book), out),
+        |out| plain::write_edited(black_box(text), black_box(book), out),
     );
 }

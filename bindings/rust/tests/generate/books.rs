@@ -3,7 +3,7 @@
 use super::block::ascending_places;
 use super::Rng;
 use crate::plain;
-use crate::plain::book::layout::{self, content, header, Block, BLOCK, BLOCKS, LENGTH};
+use crate::plain::book::layout::{self, content, copy_block, header, Block, BLOCK, BLOCKS, LENGTH};
 
 /// Issues at ends of months and years: year, month, day.
 const ISSUES: [(usize, usize, usize); 8] = [
@@ -66,6 +66,25 @@ pub fn mend(book: &mut [u8], index: usize) {
 
 pub fn mend_all(book: &mut [u8]) {
     (0..BLOCKS).for_each(|index| mend(book, index));
+}
+
+/// Gives every segment of a sound book other places.
+pub fn refill(rng: &mut Rng, book: &mut [u8]) {
+    let segments = header::segments(block_mut(book, 0));
+    for index in 1..=segments {
+        let block = block_mut(book, index);
+        *block = any_content(rng, content::purge(block));
+    }
+}
+
+/// Takes the drafts and steps out of a sound book.
+pub fn strip(book: &mut [u8]) {
+    let header = block_mut(book, 0);
+    header[header::DRAFT..].fill(0);
+    layout::seal(header);
+    for index in copy_block(0, 0)..BLOCKS {
+        *block_mut(book, index) = layout::UNUSED;
+    }
 }
 
 /// Random bytes with right checks.

@@ -5,7 +5,7 @@ use crate::plain::book::layout::{content, copy_block, header, Block, Draft, BLOC
 use crate::sides::Call;
 
 /// A call on this book, which is sound.
-pub fn call(rng: &mut Rng, book: &[u8]) -> Call {
+pub fn call(rng: &mut Rng, book: &[u8]) -> Call<'static> {
     if rng.once_in(3) {
         any_call(rng, book)
     } else {
@@ -14,7 +14,7 @@ pub fn call(rng: &mut Rng, book: &[u8]) -> Call {
 }
 
 /// What brings the work of some open draft on.
-fn next_call(rng: &mut Rng, book: &[u8]) -> Call {
+fn next_call(rng: &mut Rng, book: &[u8]) -> Call<'static> {
     let open = drafts(book, Draft::is_open);
     if open.is_empty() {
         return Call::Open;
@@ -32,7 +32,7 @@ fn next_call(rng: &mut Rng, book: &[u8]) -> Call {
     }
 }
 
-fn any_call(rng: &mut Rng, book: &[u8]) -> Call {
+fn any_call(rng: &mut Rng, book: &[u8]) -> Call<'static> {
     let d = draft(rng, book);
     let taken = taken_segment(rng, book, d);
     match rng.below(40) {

@@ -24,6 +24,8 @@ pub struct Bulletin {
 pub struct Segment {
     /// Where its first line starts.
     pub start: usize,
+    /// Where the line after its block starts.
+    pub block_end: usize,
     /// Where the line after its `$$` starts.
     pub past: usize,
     /// The purge minute.
@@ -34,10 +36,19 @@ pub struct Segment {
 
 /// Reads a bulletin of this year and month.
 pub fn read(text: &[u8], year: usize, month: usize) -> Result<Bulletin, Refusal> {
-    if text.is_empty() || text.len() > lines::MAX_TEXT {
-        return Err(Refusal::plain(refusal::LENGTH));
-    }
+    check_length(text)?;
     let month = Month::lent(year, month).ok_or(Refusal::plain(refusal::TIME))?;
+    read_in(text, month)
+}
+
+/// Refuses a text of no byte or of too many.
+pub fn check_length(text: &[u8]) -> Result<(), Refusal> {
+    let right = (1..=lines::MAX_TEXT).contains(&text.len());
+    right.then_some(()).ok_or(Refusal::plain(refusal::LENGTH))
+}
+
+/// Reads a bulletin of this month, whose length is right.
+pub fn read_in(text: &[u8], month: Month) -> Result<Bulletin, Refusal> {
     lines::check(text)?;
 
     let mut lines = Lines::from(text, 0);
@@ -115,6 +126,7 @@ fn read_segment(text: &[u8], start: usize, issue: &Issue) -> Result<Segment, Ref
     let end = end.ok_or(Refusal::at(refusal::NO_END, start))?;
     Ok(Segment {
         start,
+        block_end: block.past,
         past: end.past,
         purge,
         places: block.places,

@@ -118,7 +118,9 @@ impl Month {
 #[derive(Clone, Copy)]
 pub struct Issue {
     pub minute: u32,
-    /// The issue's month: its first minute and its minutes.
+    /// The issue's month.
+    pub month: Month,
+    /// That month's first minute and its minutes.
     start: u32,
     length: u32,
     /// The minutes of the following month.
@@ -144,6 +146,7 @@ impl Issue {
         let next_length = month.next().days() * DAY;
         Issue {
             minute,
+            month,
             start,
             length,
             next_length,

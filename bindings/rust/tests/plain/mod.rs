@@ -1,5 +1,5 @@
-//! The rules of document 01 once more, in plain Rust: the other side of the
-//! differential tests and of the benchmark.
+//! The rules of documents 01 and 02 once more, in plain Rust: the other side
+//! of the differential tests and of the benchmark.
 //!
 //! Each test program uses its own part of this module.
 #![allow(dead_code, unused_imports)]
@@ -17,7 +17,7 @@ pub mod written;
 
 pub use book::{
     add, commit, drop, make, open, read_count, read_place, read_purge, remove, set_purge, take,
-    undo, write,
+    undo, write, write_edited,
 };
 pub use bulletin::{read, view, Bulletin, Segment};
 pub use listing::{listing, listing_of_input};

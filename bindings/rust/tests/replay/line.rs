@@ -1,6 +1,6 @@
 //! Call lines of a replay.
 
-use super::{BLOCK, BUFFER, MAX_OUTPUT};
+use super::{BLOCK, BUFFER, MAX_EDITED, MAX_OUTPUT, MAX_TEXT};
 
 /// One call line with its numbers in their order.
 pub enum Line {
@@ -16,6 +16,7 @@ pub enum Line {
     Drop(usize),
     Undo,
     Write(usize, usize),
+    Edited(usize),
     View(usize),
     Listing,
     Make,
@@ -44,6 +45,7 @@ impl Line {
             (b"Q", &[d]) => Line::Drop(d),
             (b"U", []) => Line::Undo,
             (b"W", &[s, n]) => Line::Write(s, n),
+            (b"F", &[n]) => Line::Edited(n),
             (b"V", &[n]) => Line::View(n),
             (b"E", []) => Line::Listing,
             (b"+", []) => Line::Make,
@@ -59,12 +61,18 @@ impl Line {
     pub fn is_in_range(&self) -> bool {
         match *self {
             Line::Write(_, n) => n <= MAX_OUTPUT,
+            Line::Edited(n) => n <= MAX_EDITED,
             Line::Block(i) => i < BUFFER / BLOCK,
             Line::Put(offset, byte) => offset < BUFFER && byte <= 255,
             Line::Lend(n) => n <= BUFFER,
             _ => true,
         }
     }
+}
+
+/// How many bytes behind a line `% n` are the case's text from now on.
+pub fn text_length(line: &[u8]) -> Option<usize> {
+    number(line.strip_prefix(b"% ")?).filter(|&length| length <= MAX_TEXT)
 }
 
 /// An unsigned decimal of 1 to 10 digits.

@@ -1,7 +1,8 @@
 //! The replay program's interpreter, over any set of calls.
 //!
 //! Its input is one or more cases: a line `YYYY MM`, a line `NNNNN`, a
-//! bulletin of NNNNN bytes, and call lines up to a line that is `.`.
+//! bulletin of NNNNN bytes, and call lines up to a line that is `.`; a line
+//! `% n` has n bytes of another text behind it.
 //!
 //! Each test program uses its own part of this module.
 #![allow(dead_code)]
@@ -15,6 +16,8 @@ const BUFFER: usize = 30_000;
 const BOOK: usize = 25_088;
 const BLOCK: usize = 512;
 const MAX_OUTPUT: usize = 2_000;
+const MAX_EDITED: usize = 20_000;
+const MAX_TEXT: usize = 99_999;
 
 /// What a call answers: its value, or a refusal's number and place.
 pub type Answer<T> = Result<T, (usize, usize)>;
@@ -46,6 +49,7 @@ pub trait Calls {
     fn drop(&self, book: &mut [u8], draft: usize) -> Answer<()>;
     fn undo(&self, book: &mut [u8]) -> Answer<[u8; 2]>;
     fn write(&self, book: &[u8], segment: usize, output: &mut [u8]) -> Answer<usize>;
+    fn write_edited(&self, text: &[u8], book: &[u8], output: &mut [u8]) -> Answer<usize>;
 }
 
 /// What the replay program prints for this input.
@@ -106,15 +110,22 @@ impl<'a, C: Calls> Case<'a, C> {
         let made = self.make();
         push_line(out, made);
         while let Some(end) = input.iter().position(|&b| b == b'\n') {
-            let (line, rest) = (&input[..end], &input[end + 1..]);
+            let line = &input[..end];
+            input = &input[end + 1..];
             if line == b"." {
-                return Some(rest);
+                return Some(input);
             }
-            match Line::parse(line) {
-                Some(line) if line.is_in_range() => push_line(out, self.perform(line)),
-                _ => out.push_str("?\n"),
+            if let Some(length) = line::text_length(line) {
+                let taken = input.split_at_checked(length);
+                out.push_str(taken.map_or("?\n", |_| "!\n"));
+                // Where fewer bytes follow, the program ends.
+                (self.text, input) = taken?;
+                continue;
             }
-            input = rest;
+            match Line::parse(line).filter(Line::is_in_range) {
+                Some(line) => push_line(out, self.perform(line)),
+                None => out.push_str("?\n"),
+            }
         }
         if !input.is_empty() {
             out.push_str("?\n");
@@ -155,6 +166,11 @@ impl<'a, C: Calls> Case<'a, C> {
                 let mut output = vec![0x5A; n];
                 let length = calls.write(book, s, &mut output)?;
                 Ok(format!("W {length} {}", hex(&output)))
+            }
+            Line::Edited(n) => {
+                let mut output = vec![0x5A; n];
+                let length = calls.write_edited(text, book, &mut output)?;
+                Ok(format!("F {length} {}", sum(&output)))
             }
             Line::View(n) => {
                 let (start, length) = calls.view(text, year, month, n)?;
@@ -208,7 +224,7 @@ fn hex(bytes: &[u8]) -> String {
     bytes.iter().map(|byte| format!("{byte:02x}")).collect()
 }
 
-/// The sum that the line `Z` prints.
+/// The sum that the lines `Z` and `F` print.
 fn sum(bytes: &[u8]) -> u64 {
     let weighted: u64 = (1..).zip(bytes).map(|(i, &b)| i * u64::from(b)).sum();
     (1 + weighted) % 4_294_967_291

@@ -1,10 +1,12 @@
 //! Calls on a book as values.
 
+use std::fmt;
+
 use crate::replay::{Answer, Calls};
 
 /// A call on a book.
 #[derive(Clone, Copy, Debug)]
-pub enum Call {
+pub enum Call<'a> {
     Open,
     Take(usize, usize),
     Purge(usize, usize),
@@ -17,13 +19,24 @@ pub enum Call {
     Drop(usize),
     Undo,
     Write(usize),
+    WriteEdited(Text<'a>),
+}
+
+/// A text, shown as it can be typed in again.
+#[derive(Clone, Copy)]
+pub struct Text<'a>(pub &'a [u8]);
+
+impl fmt::Debug for Text<'_> {
+    fn fmt(&self, f: &mut fmt::Formatter<'_>) -> fmt::Result {
+        write!(f, "b\"{}\"", self.0.escape_ascii())
+    }
 }
 
 /// What a call answered, made alike for all calls.
 pub type Told = Answer<(usize, usize)>;
 
-impl Call {
-    /// Makes the call; `output` is lent to a write.
+impl Call<'_> {
+    /// Makes the call; `output` is lent to what writes.
     pub fn on(self, calls: &impl Calls, book: &mut [u8], output: &mut [u8]) -> Told {
         let one = |value: usize| (value, 0);
         match self {
@@ -42,11 +55,13 @@ impl Call {
             Call::Drop(d) => calls.drop(book, d).map(|()| (0, 0)),
             Call::Undo => calls.undo(book).map(segments),
             Call::Write(s) => calls.write(book, s, output).map(one),
+            Call::WriteEdited(Text(text)) => calls.write_edited(text, book, output).map(one),
         }
     }
 
-    /// One of each call, right for a book whose draft 1 has taken segment 1.
-    pub const EACH: [Call; 12] = [
+    /// One of each call, right for a book whose draft 1 has taken segment 1;
+    /// the last is right for a book of its own text.
+    pub const EACH: [Call<'static>; 13] = [
         Call::Open,
         Call::Take(1, 2),
         Call::Purge(1, 1),
@@ -59,6 +74,7 @@ impl Call {
         Call::Drop(1),
         Call::Undo,
         Call::Write(1),
+        Call::WriteEdited(Text(b"FPUS51 KXYZ 150822\nZFPXYZ\nMDC001-242100-\n$$\n")),
     ];
 }
 

@@ -104,6 +104,10 @@ impl Calls for Core {
     fn write(&self, book: &[u8], segment: usize, output: &mut [u8]) -> Answer<usize> {
         answer(calls::write(book, wide(segment), output))
     }
+
+    fn write_edited(&self, text: &[u8], book: &[u8], output: &mut [u8]) -> Answer<usize> {
+        answer(calls::write_edited(text, book, output))
+    }
 }
 
 impl Reader for Core {

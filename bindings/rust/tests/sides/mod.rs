@@ -10,7 +10,7 @@ mod pair;
 mod plain_side;
 mod tally;
 
-pub use call::{Call, Told};
+pub use call::{Call, Text, Told};
 pub use core_side::Core;
 pub use guarded::Guarded;
 pub use pair::Pair;

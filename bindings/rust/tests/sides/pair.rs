@@ -23,7 +23,17 @@ impl Pair {
     }
 
     /// Makes the call on both books and compares all there is.
-    pub fn perform(&mut self, call: Call, room: usize, tally: &mut Tally) -> Told {
+    pub fn perform(&mut self, call: Call<'_>, room: usize, tally: &mut Tally) -> Told {
+        self.perform_seen(call, room, tally).0
+    }
+
+    /// The same, with the output afterwards.
+    pub fn perform_seen(
+        &mut self,
+        call: Call<'_>,
+        room: usize,
+        tally: &mut Tally,
+    ) -> (Told, Vec<u8>) {
         let before = self.core.clone();
         let untouched = Guarded::filled(room, 0x5A);
         let (mut written, mut right_written) = (untouched.clone(), untouched.clone());
@@ -40,7 +50,7 @@ impl Pair {
             );
             assert_eq!(written, untouched, "{call:?} is refused and writes");
         }
-        told
+        (told, written.lent().to_vec())
     }
 
     /// Where the two books differ first.

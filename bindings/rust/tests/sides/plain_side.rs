@@ -93,6 +93,10 @@ impl Calls for Plain {
     fn write(&self, book: &[u8], segment: usize, output: &mut [u8]) -> Answer<usize> {
         answer(plain::write(book, segment, output))
     }
+
+    fn write_edited(&self, text: &[u8], book: &[u8], output: &mut [u8]) -> Answer<usize> {
+        answer(plain::write_edited(text, book, output))
+    }
 }
 
 impl Reader for Plain {
@@ -118,11 +122,10 @@ impl Reader for Plain {
     ) -> Answer<SegmentRead> {
         let bulletin = answer(plain::read(text, year, month))?;
         let segment = find_segment(&bulletin, number)?;
-        let block = answer(blocks::read(text, segment.start))?;
         Ok(SegmentRead {
             start: segment.start,
             length: segment.past - segment.start,
-            block_end: block.past,
+            block_end: segment.block_end,
             purge: segment.purge,
             count: segment.places.len(),
         })

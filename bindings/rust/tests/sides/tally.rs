@@ -2,14 +2,17 @@
 
 use crate::replay::Answer;
 
+/// One more than the highest refusal number.
+const NUMBERS: usize = 28;
+
 /// Counts by refusal number; 0 counts what was accepted.
 pub struct Tally {
-    seen: [usize; 25],
+    seen: [usize; NUMBERS],
 }
 
 impl Tally {
     pub fn new() -> Self {
-        Tally { seen: [0; 25] }
+        Tally { seen: [0; NUMBERS] }
     }
 
     pub fn note<T>(&mut self, answer: &Answer<T>) {

@@ -2,6 +2,7 @@
 //! place only once the call is accepted.
 
 mod drafts;
+mod edited;
 mod history;
 pub mod layout;
 mod sound;
@@ -14,6 +15,7 @@ use super::refusal::{self, Refusal};
 use super::written;
 
 pub use drafts::{add, open, read_count, read_place, read_purge, remove, set_purge, take};
+pub use edited::write_edited;
 pub use history::{commit, drop, undo};
 
 /// Makes a book from a bulletin; the old bytes do not matter.
