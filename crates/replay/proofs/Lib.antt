@@ -3,3 +3,4 @@ mod Ends
 mod Words
 mod Starts
 mod Sums
+mod Texts

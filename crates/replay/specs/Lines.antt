@@ -1,5 +1,5 @@
 -- The input of the replay program: cases, each of two lines, a bulletin and call lines.
-use Prim.Native.Nat.{ℕ, zero, suc, _+_, _-_, _*_, _≤_, _<_}
+use Prim.Native.Nat.{ℕ, zero, suc, _+_, _-_, _*_, _%_, _≤_, _<_}
 use mathlib.Core.List.{List, [], _∷_, _++_}
 use mathlib.Core.Bool.{Bool, cond, _&&_}
 use mathlib.Core.Option.{Option, none, some}
@@ -9,10 +9,12 @@ use Rattle.laws.specs.Lists.{every}
 use Rattle.lines.specs.Bytes.{Kind, digit, word, begins}
 use Rattle.lines.specs.Lines.{glue}
 use Rattle.lines.specs.Spans.{part}
+use Rattle.blocks.specs.Block.{sumTo}
 use Rattle.heading.specs.Heading.{times}
 use Rattle.printing.specs.Asked.{YearMonth, askedOf}
 use Rattle.replay.specs.declared.Number.{Number}
 use Rattle.replay.specs.declared.Line.{Line}
+use Rattle.replay.specs.declared.Progress.{Progress}
 use Rattle.replay.specs.declared.Opening.{Opening}
 use Rattle.replay.specs.declared.Opening.the-variants.{Case, Wrong}
 
@@ -95,6 +97,58 @@ starting (some t) (some n) s = cond (leb n (length s)) (some (record { year = t 
 unfoldable pub caseOf : List ℕ → Option Start
 caseOf s = starting (askedOf s) (lengthLine (drop 8 s)) (drop 14 s)
 
+-- ---- `% n`: "the n bytes (at most 99999) after this line's LF become the case's text from now on"
+abbrev pub mostText : ℕ
+mostText = 99999
+
+-- "with n over the limit print `?` and take no bytes. Where fewer than n bytes follow, they print `?` and the program ends."
+pub data Following : Type 0 where
+  taken : (bytes rest : List ℕ) → Following
+  overLimit : Following
+  tooFew : Following
+
+unfoldable pub following : ℕ → ℕ → List ℕ → Following
+following most n s = cond (leb n most) (cond (leb n (length s)) (taken (take n s) (drop n s)) tooFew) overLimit
+
+-- what a case goes on with: its text, and the input behind the lines that are done
+pub record Standing : Type 0 where
+  pub text : List ℕ
+  pub rest : List ℕ
+
+-- a program that ends does nothing more of its input
+abbrev pub standingAfter : Standing → Following → Standing
+standingAfter c (taken bytes rest) = record { text = bytes; rest = rest }
+standingAfter c overLimit = c
+standingAfter c tooFew = record { text = c .text; rest = [] }
+
+unfoldable pub replaced : ℕ → Standing → Standing
+replaced n c = standingAfter c (following mostText n (c .rest))
+
+-- the n of a line `% n`
+abbrev pub onlyOne : List ℕ → Option ℕ
+onlyOne [] = none
+onlyOne (n ∷ []) = some n
+onlyOne (n ∷ (m ∷ ns)) = none
+
+abbrev pub percent : ℕ
+percent = 37
+
+unfoldable pub textAsked : Option CallLine → Option ℕ
+textAsked none = none
+textAsked (some l) = cond (eqb (l .kind) percent) (onlyOne (l .numbers)) none
+
+-- what the case goes on with after a line: no other line takes of the input behind it
+abbrev pub afterAsked : Option ℕ → Standing → Standing
+afterAsked none c = c
+afterAsked (some n) c = replaced n c
+
+unfoldable pub afterLine : Option CallLine → Standing → Standing
+afterLine l c = afterAsked (textAsked l) c
+
+-- ---- the sum of `Z` and `F`: "(1 + the sum over .. bytes of (i+1) * byte i) modulo 4,294,967,291"
+unfoldable pub weightedSum : List ℕ → ℕ
+weightedSum s = (1 + sumTo (length s) s) % 4294967291
+
 -- ---- what the code's types mean
 -- how many digits stand at the front of s, at most n counted
 unfoldable pub digitsInFront : ℕ → List ℕ → ℕ
@@ -118,3 +172,12 @@ paperOpening s Wrong = none
 abbrev pub linesWithin : ℕ → ℕ → Opening → Type 0
 linesWithin at n (Case c) = (at < c .end) × (c .end ≤ n)
 linesWithin at n Wrong = Unit {0}
+
+abbrev pub paperProgress : List ℕ → Progress → Standing
+paperProgress s p = record { text = part s (p .start) (p .end); rest = drop (p .next) s }
+
+-- the next line is not before the one that was done, nor behind the input's end, and no more than the buffer is lent
+pub record Onward (n : ℕ) (before after : Progress) : Type 0 where
+  pub low : before .next ≤ after .next
+  pub high : after .next ≤ n
+  pub lent : after .lent ≤ 30000

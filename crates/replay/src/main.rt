@@ -1,10 +1,12 @@
 // The replay program: bulletins, and after each a list of calls on its book; it prints a line for each.
 ghost use mathlib.Core.Path.{_≡_};
-ghost use mathlib.Core.Bool.{false};
-ghost use Prim.Native.Nat.{_+_, _≤_, _<_};
-ghost use lib.ListN.{length, drop};
+ghost use mathlib.Core.Bool.{false, cond};
+ghost use mathlib.Core.Option.{none, some};
+ghost use Prim.Native.Nat.{_+_, _*_, _≤_, _<_};
+ghost use lib.ListN.{length, getD, drop};
 ghost use Rattle.lines.specs.Bytes.{lf};
 ghost use Rattle.replay.specs.Lines.{callLine, lineUpTo, caseOf, numberFrom, paperLine, paperOpening, linesWithin};
+ghost use Rattle.replay.specs.Lines.{weightedSum, textAsked, replaced, afterLine, paperProgress, Onward};
 use calendar::Stamp;
 use layout::Changed;
 use layout::Reply;
@@ -14,14 +16,19 @@ use refusal::Refusal;
 use refusal::Verdict;
 use writing::Written;
 
-// The most bytes of input, and the bytes of a case's buffer, of a book and of the longest output.
+// The most bytes of input, and the bytes of a case's buffer and of a book.
 const INPUT: usize = 1048576;
 
 const BUFFER: usize = 30000;
 
 const BOOK: usize = 25088;
 
+// The longest output of a segment and of an edited bulletin, and the longest text that replaces a case's own.
 const OUTPUT: usize = 2000;
+
+const EDITED: usize = 20000;
+
+const TEXT: usize = 99999;
 
 // ---- call lines
 // A number, and where its digits end.
@@ -260,7 +267,7 @@ fn say_hex(bytes: &[u8]) {
 fn takes(kind: u8) -> usize {
     match kind {
         b'O' | b'U' | b'E' | b'+' | b'Z' => 0,
-        b'C' | b'Q' | b'V' | b'B' | b'L' => 1,
+        b'C' | b'Q' | b'V' | b'F' | b'B' | b'L' => 1,
         b'T' | b'P' | b'N' | b'W' | b'!' => 2,
         b'I' | b'A' | b'X' => 3,
         b'M' => 5,
@@ -346,25 +353,49 @@ fn view_line(text: &[u8], year: usize, month: usize, n: usize) {
     }
 }
 
-// What the byte at place i adds to the sum.
+// What the byte at place i adds to a sum.
 fn weigh(i: usize, b: u8) -> usize
     requires { ⌜ i < 30000 ⌝ }
-    ensures { λ r. ⌜ r ≤ 7650000 ⌝ }
+    ensures { λ r. ⌜ (r ≡ (i + 1) * b) × (r ≤ 7650000) ⌝ }
 {
     (i + 1) * b as usize
 }
 
-// 1 and the weighted sum of the whole buffer, modulo 4,294,967,291.
-fn total(buffer: &[u8]) -> usize
-    requires { ⌜ length (now buffer) ≡ 30000 ⌝ }
+// 1 and the weighted sum of the bytes, modulo 4,294,967,291: of a buffer, or of an output.
+fn total(bytes: &[u8]) -> usize
+    requires { ⌜ length (now bytes) ≤ 30000 ⌝ }
+    ensures { λ r. ⌜ r ≡ weightedSum (now (bytes .entry)) ⌝ }
 {
     let mut sum: usize = 1;
     let mut i: usize = 0;
-    while i < 30000 {
-        sum += weigh(i, buffer[i]);
+    while i < bytes.len() {
+        sum += weigh(i, bytes[i]);
         i += 1;
     }
     sum % 4294967291
+}
+
+// Writes the edited bulletin into the output, and prints its length and the sum of the whole output.
+fn write_edited_into(text: &[u8], book: &[u8], out: &mut [u8])
+    requires { ⌜ length (now out) ≤ 20000 ⌝ }
+{
+    match sending::write_edited(text, book, out) {
+        Written::Length(n) => {
+            printing::say(b"F ");
+            printing::say_number(n);
+            say_next(total(out));
+            printing::say(b"\n");
+        }
+        Written::Refused(r) => printing::say_refusal(r),
+    }
+}
+
+fn edited_line(text: &[u8], book: &[u8], room: usize) {
+    if EDITED < room {
+        return say_unknown();
+    }
+    let mut out = [0x5Au8; 20000];
+    write_edited_into(text, book, &mut out[0..room]);
 }
 
 // ---- lines that are no call, and see the whole buffer
@@ -436,10 +467,73 @@ fn act(buffer: &mut [u8], lent: usize, text: &[u8], source: Source, line: Line) 
         b'V' => view_line(text, year, month, n[0]),
         b'E' => printing::list(text, year, month),
         b'W' => write_line(&buffer[0..lent], n[0], n[1]),
+        b'F' => edited_line(text, &buffer[0..lent], n[0]),
         b'+' => make_line(buffer, lent, text, year, month),
         _ => say_reply(book_call(&mut buffer[0..lent], kind, n)),
     }
     lent
+}
+
+// How far a case has come: where its text stands in the input, where its next line starts, and how much of the buffer is lent.
+struct Progress {
+    start: usize,
+    end: usize,
+    next: usize,
+    lent: usize,
+}
+
+// Whether a line is `% n`.
+fn asks_text(line: Line) -> bool
+    ensures { λ r. ⌜ textAsked (paperLine line) ≡ cond r (some (getD (line .numbers) 0 0)) none ⌝ }
+{
+    line.known & (line.kind == b'%') & (line.count == 1)
+}
+
+// `% n`: the n bytes behind the line become the case's text. Where fewer follow, the program ends: no line of the input is left to do.
+fn text_line(input: &[u8], progress: Progress, n: usize) -> Progress
+    requires { ⌜ (progress .next ≤ length (now input)) × (progress .lent ≤ 30000) ⌝ }
+    ensures is { λ r. ⌜ paperProgress (now (input .entry)) r ≡ replaced n (paperProgress (now (input .entry)) progress) ⌝ }
+    ensures goes { λ r. ⌜ Onward (length (now (input .entry))) progress r ⌝ }
+{
+    if TEXT < n {
+        say_unknown();
+        return progress;
+    }
+    let start = progress.next;
+    let mut after = progress;
+    if input.len() - start < n {
+        say_unknown();
+        after.next = input.len();
+        return after;
+    }
+    printing::say(b"!\n");
+    after.start = start;
+    after.end = start + n;
+    after.next = start + n;
+    after
+}
+
+// Does a line: `% n` is about the input, and any other line is a call or prints `?`.
+fn do_line(
+    buffer: &mut [u8],
+    input: &[u8],
+    source: Source,
+    progress: Progress,
+    line: Line,
+) -> Progress
+    requires { ⌜ (length (now buffer) ≡ 30000) × (progress .next ≤ length (now input)) × (progress .lent ≤ 30000) ⌝ }
+    ensures is { λ r. ⌜ paperProgress (now (input .entry)) r ≡ afterLine (paperLine line) (paperProgress (now (input .entry)) progress) ⌝ }
+    ensures goes { λ r. ⌜ Onward (length (now (input .entry))) progress r ⌝ }
+{
+    let asked = asks_text(line);
+    if asked {
+        let n = line.numbers;
+        return text_line(input, progress, n[0]);
+    }
+    let text = lines::part(input, progress.start, progress.end);
+    let mut after = progress;
+    after.lent = act(buffer, progress.lent, text, source, line);
+    after
 }
 
 // Does a case: its book, and its call lines; answers where the next case starts, or the input's length.
@@ -449,23 +543,28 @@ fn run(input: &[u8], source: Source) -> usize
 {
     let mut buffer = [0xAAu8; 30000];
     let text = lines::part(input, source.start, source.end);
-    let mut lent = BOOK;
-    make_line(&mut buffer, lent, text, source.year, source.month);
-    let mut at = source.end;
-    while at < input.len() {
+    make_line(&mut buffer, BOOK, text, source.year, source.month);
+    let mut progress = Progress {
+        start: source.start,
+        end: source.end,
+        next: source.end,
+        lent: BOOK,
+    };
+    while progress.next < input.len() {
+        let at = progress.next;
         let end = line_end(input, at);
         if input.len() <= end {
             say_unknown();
             return end;
         }
         let line = &input[at..end];
-        at = end + 1;
+        progress.next = end + 1;
         if (line.len() == 1) & (lines::byte(line, 0) == b'.') {
-            return at;
+            return end + 1;
         }
-        lent = act(&mut buffer, lent, text, source, spell(line));
+        progress = do_line(&mut buffer, input, source, progress, spell(line));
     }
-    at
+    progress.next
 }
 
 // Case after case, up to the input's end.

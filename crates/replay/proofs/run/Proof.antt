@@ -6,10 +6,11 @@ use Rattle.replay.proofs.run.Statement.{statement}
 use Rattle.replay.proofs.run.Tie as tie
 
 abbrev Inv-loop : tie.InvT-loop
-Inv-loop input source buffer₀ text lent₀ at₀ buffer lent at = (source .end ≤ at) × (at ≤ length input) × (lent ≤ 30000) × (length buffer ≡ 30000)
+Inv-loop input source buffer₀ progress₀ buffer progress =
+    (source .end ≤ progress .next) × (progress .next ≤ length input) × (progress .lent ≤ 30000) × (length buffer ≡ 30000)
 
 abbrev μ-loop : tie.MeasureT-loop
-μ-loop input source buffer₀ text lent₀ at₀ buffer lent at = length input - at
+μ-loop input source buffer₀ progress₀ buffer progress = length input - progress .next
 
 pub run-spec : {M : Type 1} → statement M
 run-spec =
@@ -29,6 +30,7 @@ run-spec =
     (λ c. search needs)
     (λ c. search needs)
     (λ c κs. search needs)
+    (λ c. search needs)
     (λ c. search needs)
     (λ c. search needs)
     (λ c κs. search needs)

@@ -1,13 +1,15 @@
 use borrow.Author.Needs.{needs}
-use Prim.Native.Nat.{_+_, _-_, _*_, _≤_}
+use Prim.Native.Nat.{_-_}
+use lib.ListN.{length}
+use Rattle.replay.proofs.Sums.{Totals, totals-start, totals-on, totals-done}
 use Rattle.replay.proofs.total.Statement.{statement}
 use Rattle.replay.proofs.total.Tie as tie
 
 abbrev Inv-loop : tie.InvT-loop
-Inv-loop buffer sum₀ i₀ sum i = (i ≤ 30000) × (sum ≤ 1 + 7650000 * i)
+Inv-loop bytes sum₀ i₀ sum i = Totals bytes i sum
 
 abbrev μ-loop : tie.MeasureT-loop
-μ-loop buffer sum₀ i₀ sum i = 30000 - i
+μ-loop bytes sum₀ i₀ sum i = length bytes - i
 
 pub total-spec : {M : Type 1} → statement M
 total-spec =
@@ -15,11 +17,11 @@ total-spec =
     (tie.spec
     Inv-loop
     μ-loop
-    (λ c. search needs)
+    (λ c. search (totals-start, needs))
     (λ c. search needs)
     (λ c κs. search needs)
     (λ c. search needs)
     (λ c. search needs)
     (λ c. search needs)
-    (λ c. search needs)
-    (λ c. search needs))
+    (λ c. search (totals-on, needs))
+    (λ c. search (totals-done, needs)))
