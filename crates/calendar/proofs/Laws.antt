@@ -2,18 +2,20 @@
 use Prim.Native.Nat.{ℕ, zero, suc, _+_, _-_, _*_, _/_, _%_, _≤_, _<_}
 use native.Mathlib.Omega.{arith}
 use mathlib.Core.Path.{_≡_, refl, sym, ap, _∙_}
-use mathlib.Core.Bool.{Bool, true, cond, _&&_}
+use mathlib.Core.Bool.{Bool, true, false, cond, _&&_}
+use mathlib.Core.List.{List, [], _∷_}
 use mathlib.Core.Option.{Option, none, some}
 use lib.Dec.{leb, ltb, eqb}
-use borrow.Author.Tests.{leb-true, ltb-true, ltb-false, lt-ltb, le-leb, eq-eqb, eqb-true, eqb-false}
-use Rattle.laws.proofs.Tests.{by, by-order, impossible, apart, and-left, and-right}
+use borrow.Author.Tests.{leb-true, ltb-true, ltb-false, lt-ltb, le-ltb, le-leb, lt-leb, eq-eqb, eqb-true, eqb-false}
+use Rattle.laws.specs.Lists.{All, all-nil, all-cons}
+use Rattle.laws.proofs.Tests.{by, by-order, impossible, apart, and-left, and-right, same-test}
 use Rattle.calendar.specs.declared.Stamp.{Stamp}
 use Rattle.calendar.specs.declared.Date.{Date}
 use Rattle.calendar.specs.Calendar.{leap, february, monthLength, nextMonth, afterJanuary, monthNumber, yearOf, monthOfYear, daysIn, isIssueMonth}
 use Rattle.calendar.specs.Calendar.{issueMonths, allMonths, startOf, isTime, minuteIn, dayExists, isMonth, minuteOf, monthFrom, monthOf, stampAfter}
 use Rattle.calendar.specs.Calendar.{dateIn, dateOf}
 use Rattle.calendar.specs.Months.{Time, lengthIn}
-use Rattle.calendar.specs.Purge.{notBefore, purgeIn, purgeUnder, purgeOf, gives, ownStamp, isPurge}
+use Rattle.calendar.specs.Purge.{monthsAround, minutesWith, notTooEarly, firstOf, purgeIn, purgeUnder, purgeOf, gives, ownStamp, isPurge}
 
 -- ---- months
 -- where the next month starts
@@ -121,6 +123,10 @@ pub start-end : startOf allMonths ≡ 68418720
 unfolding monthLength afterJanuary
 start-end = omega (arith, start-next issueMonths, start-year 130, days-of issueMonths 2100 1 refl refl)
 
+-- where the issues end
+pub start-issues : startOf issueMonths ≡ 68374080
+start-issues = omega (arith, start-year 130)
+
 -- ---- the month of a minute
 -- minute t falls in month k of the calendar
 pub record Falls (t k : ℕ) : Type 0 where
@@ -190,6 +196,16 @@ month-is t k f = go (monthOf t) refl
     go : (o : Option ℕ) → monthOf t ≡ o → monthOf t ≡ some k
     go none e = impossible (omega (arith, month-none t e, falls-low t k f))
     go (some j) e = e ∙ ap some (falls-one t j k (month-some t j e) f)
+
+-- a minute before the issues' end falls in a month that an issue may have, and no other does
+pub issue-test : (t k : ℕ) → Falls t k → ltb t (startOf issueMonths) ≡ ltb k issueMonths
+issue-test t k f =
+    same-test (ltb t (startOf issueMonths)) (ltb k issueMonths)
+    (λ h.
+    by-order k issueMonths
+    (λ l. lt-ltb k issueMonths l)
+    (λ l. impossible (omega (arith, start-mono issueMonths k l, f .low, ltb-true t (startOf issueMonths) h))))
+    (λ h. lt-ltb t (startOf issueMonths) (omega (arith, f .high, start-mono (suc k) issueMonths (ltb-true k issueMonths h))))
 
 -- no month is answered past the calendar's end
 pub month-past : (t : ℕ) → 68418720 ≤ t → monthOf t ≡ none
@@ -420,8 +436,138 @@ date-time d t e = go (monthOf t) refl e
         let same : record { year = yearOf k; month = monthOfYear k; stamp = stampAfter (t - startOf k) } ≡ d = cc in
         rw (← same) (time-is (stampAfter (t - startOf k)) (after-time k t (month-some t k q)))
 
+-- ---- the search for the purge minute, from the earliest minute's month on
+-- a DDHHMM has a minute in month j that counts: the day exists there, and the minute is not too early
+abbrev pub fits : ℕ → Stamp → ℕ → Bool
+fits issue s j = dayExists j s && notTooEarly issue (minuteIn j s)
+
+-- the first of some months that has one decides
+first-step : (issue : ℕ) (s : Stamp) (j : ℕ) (js : List ℕ)
+    → firstOf issue (minutesWith s (j ∷ js)) ≡ cond (fits issue s j) (some (minuteIn j s)) (firstOf issue (minutesWith s js))
+unfolding firstOf minutesWith
+first-step issue s j js = by (dayExists j s) (λ e. rw e) (λ e. rw e)
+
+-- no minute under an issue past the last year, or of a DDHHMM out of its ranges
+pub purge-no : (issue : ℕ) (s : Stamp) → (ltb issue (startOf issueMonths) && isTime s) ≡ false → purgeOf issue s ≡ none
+unfolding purgeOf
+purge-no issue s h = go (monthOf issue) refl
+  where
+    go : (o : Option ℕ) → monthOf issue ≡ o → purgeUnder o issue s ≡ none
+    go none q = refl
+    go (some k) q = let same = issue-test issue k (month-some issue k q) in rw (← same, h)
+
+-- not too early is at most 1,440 minutes before the issue
+early-true : (issue t : ℕ) → notTooEarly issue t ≡ true → issue ≤ t + 1440
+early-true issue t h = leb-true issue (t + 1440) h
+
+pub early-is : (issue t : ℕ) → issue ≤ t + 1440 → notTooEarly issue t ≡ true
+early-is issue t h = le-leb issue (t + 1440) h
+
+-- the earliest minute that counts
+pub early-test : (issue t : ℕ) → leb (issue - 1440) t ≡ notTooEarly issue t
+early-test issue t =
+    same-test (leb (issue - 1440) t) (notTooEarly issue t)
+    (λ h. early-is issue t (omega (arith, leb-true (issue - 1440) t h)))
+    (λ h. le-leb (issue - 1440) t (omega (arith, early-true issue t h)))
+
+-- the earliest minute is of month a, and the issue of that one or of the next
+module _ (issue a : ℕ) (early : Falls (issue - 1440) a) where
+  pub issue-same : issue < startOf (suc a) → Falls issue a
+  issue-same h = record { low = omega (arith, early .low); high = h; known = early .known }
+
+  module _ (low : issue < startOf issueMonths) where
+    pub early-known : a < issueMonths
+    early-known = ltb-true a issueMonths (sym (issue-test (issue - 1440) a early) ∙ lt-ltb (issue - 1440) (startOf issueMonths) (omega arith))
+
+    pub issue-next : startOf (suc a) ≤ issue → Falls issue (suc a)
+    issue-next h =
+        record { low = h; high = omega (arith, early .high, start-next (suc a), days-low (suc a)); known = omega (arith, early-known) }
+
+    pub next-known : startOf (suc a) ≤ issue → suc a < issueMonths
+    next-known h = ltb-true (suc a) issueMonths (sym (issue-test issue (suc a) (issue-next h)) ∙ lt-ltb issue (startOf issueMonths) low)
+
+module _ (issue a : ℕ) (s : Stamp) (early : Falls (issue - 1440) a) (low : issue < startOf issueMonths) (time : isTime s ≡ true) where
+  -- in an earlier month a minute is too early
+  earlier : (j : ℕ) → suc j ≡ a → fits issue s j ≡ false
+  unfolding minuteIn
+  earlier j same =
+      by (dayExists j s)
+      (λ d.
+      let t = time-true s time in
+      let day : s .day ≤ daysIn j = leb-true (s .day) (daysIn j) d in
+      let no : leb (issue - 1440) (minuteIn j s) ≡ false = lt-leb (issue - 1440) (minuteIn j s) (omega (arith, start-next j, ap startOf same, early .low)) in
+      rw (d, ← early-test issue (minuteIn j s), no))
+      (λ d. rw d)
+
+  -- in a later one it is not
+  later : (j : ℕ) → a < j → fits issue s j ≡ dayExists j s
+  unfolding minuteIn
+  later j h =
+      let soon = early-is issue (minuteIn j s) (omega (arith, start-mono (suc a) j h, early .high)) in
+      by (dayExists j s) (λ d. rw (d, soon)) (λ d. rw d)
+
+  under : (k : ℕ) → Falls issue k → purgeOf issue s ≡ firstOf issue (minutesWith s (monthsAround k))
+  unfolding purgeOf purgeIn
+  under k f = rw (month-is issue k f, ← issue-test issue k f, lt-ltb issue (startOf issueMonths) low, time)
+
+  -- so the search starts in month a, whether the issue is of that one or of the next
+  same-month : issue < startOf (suc a) → purgeOf issue s ≡ firstOf issue (minutesWith s (a ∷ suc a ∷ []))
+  unfolding monthsAround
+  same-month h = under a (issue-same issue a early h) ∙ go a refl
+    where
+      go : (k : ℕ) → k ≡ a → firstOf issue (minutesWith s (monthsAround k)) ≡ firstOf issue (minutesWith s (k ∷ suc k ∷ []))
+      go zero e = refl
+      go (suc j) e = first-step issue s j (suc j ∷ suc (suc j) ∷ []) ∙ rw (earlier j e)
+
+  next-month : startOf (suc a) ≤ issue → purgeOf issue s ≡ firstOf issue (minutesWith s (a ∷ suc a ∷ suc (suc a) ∷ []))
+  unfolding monthsAround
+  next-month h = under (suc a) (issue-next issue a early low h)
+
+  -- the months of the search behind month a
+  abbrev rest : List ℕ
+  rest = suc a ∷ cond (ltb issue (startOf (suc a))) [] (suc (suc a) ∷ [])
+
+  searched : purgeOf issue s ≡ firstOf issue (minutesWith s (a ∷ rest))
+  searched =
+      by-order issue (startOf (suc a))
+      (λ h. rw (lt-ltb issue (startOf (suc a)) h) (same-month h))
+      (λ h. rw (le-ltb issue (startOf (suc a)) h) (next-month h))
+
+  -- the first month decides, if it can
+  pub search-first : fits issue s a ≡ true → purgeOf issue s ≡ some (minuteIn a s)
+  search-first q = searched ∙ first-step issue s a rest ∙ rw q
+
+  module _ (n : fits issue s a ≡ false) where
+    search-on : purgeOf issue s
+        ≡ cond (dayExists (suc a) s) (some (minuteIn (suc a) s)) (firstOf issue (minutesWith s (cond (ltb issue (startOf (suc a))) [] (suc (suc a) ∷ []))))
+    search-on = searched ∙ first-step issue s a rest ∙ rw n (first-step issue s (suc a) _ ∙ rw (later (suc a) (omega arith)))
+
+    -- else the second, if it has the day
+    pub search-second : dayExists (suc a) s ≡ true → purgeOf issue s ≡ some (minuteIn (suc a) s)
+    search-second q = search-on ∙ rw q
+
+    module _ (m : dayExists (suc a) s ≡ false) where
+      -- else there is no third month where the issue is of the first
+      pub search-end : issue < startOf (suc a) → purgeOf issue s ≡ none
+      unfolding firstOf minutesWith
+      search-end h = search-on ∙ rw (m, lt-ltb issue (startOf (suc a)) h)
+
+      search-last : startOf (suc a) ≤ issue → purgeOf issue s ≡ cond (dayExists (suc (suc a)) s) (some (minuteIn (suc (suc a)) s)) none
+      unfolding firstOf minutesWith
+      search-last h =
+          search-on
+          ∙ rw (m, le-ltb issue (startOf (suc a)) h)
+          (first-step issue s (suc (suc a)) [] ∙ rw (later (suc (suc a)) (omega arith)))
+
+      -- and where it is of the second, the third decides
+      pub search-third : startOf (suc a) ≤ issue → dayExists (suc (suc a)) s ≡ true → purgeOf issue s ≡ some (minuteIn (suc (suc a)) s)
+      search-third h q = search-last h ∙ rw q
+
+      pub search-gone : startOf (suc a) ≤ issue → dayExists (suc (suc a)) s ≡ false → purgeOf issue s ≡ none
+      search-gone h q = search-last h ∙ rw q
+
 -- ---- the purge minute
--- s gives the purge minute t under an issue: in the issue's month or the next, which is month `at`
+-- s gives the purge minute t under an issue: in the month before the issue's, in it or in the next, which is month `at`
 pub record Purges (issue : ℕ) (s : Stamp) (t : ℕ) : Type 0 where
   pub month : ℕ
   pub at : ℕ
@@ -431,46 +577,58 @@ pub record Purges (issue : ℕ) (s : Stamp) (t : ℕ) : Type 0 where
   pub time : isTime s ≡ true
   pub day : s .day ≤ daysIn at
   pub here : minuteIn at s ≡ t
-  pub from : issue ≤ t
+  pub from : issue ≤ t + 1440
 
 module _ (issue t k : ℕ) (s : Stamp) (f : Falls issue k) (last : k < issueMonths) (time : isTime s ≡ true) where
-  purge-at : (j : ℕ) → j ≤ suc k → dayExists j s ≡ true → minuteIn j s ≡ t → issue ≤ t → Purges issue s t
-  purge-at j near day here from =
-      record { month = k; at = j; issued = f; last = last; near = near; time = time; day = leb-true (s .day) (daysIn j) day; here = here; from = from }
+  purge-at : (j : ℕ) → j ≤ suc k → fits issue s j ≡ true → minuteIn j s ≡ t → Purges issue s t
+  purge-at j near q here =
+      let a = dayExists j s in
+      let b = notTooEarly issue (minuteIn j s) in
+      record {
+        month = k;
+        at = j;
+        issued = f;
+        last = last;
+        near = near;
+        time = time;
+        day = leb-true (s .day) (daysIn j) (and-left a b q);
+        here = here;
+        from = omega (arith, early-true issue (minuteIn j s) (and-right a b q));
+      }
 
-  purge-in : purgeIn k issue s ≡ some t → Purges issue s t
-  unfolding purgeIn minuteIn
-  purge-in e =
-      let a = dayExists k s in
-      let b = notBefore issue (minuteIn k s) in
-      by (a && b)
+  purge-in : (js : List ℕ) → All (λ (j : ℕ). j ≤ suc k) js → firstOf issue (minutesWith s js) ≡ some t → Purges issue s t
+  unfolding firstOf minutesWith
+  purge-in [] near e = apart cc
+  purge-in (j ∷ js) (all-cons near more) e =
+      let d : cond (fits issue s j) (some (minuteIn j s)) (firstOf issue (minutesWith s js)) ≡ some t = sym (first-step issue s j js) ∙ e in
+      by (fits issue s j)
       (λ q.
-      let g : some (minuteIn k s) ≡ some t = rw q at e in
-      let here : minuteIn k s ≡ t = cc in
-      purge-at k (omega arith) (and-left a b q) here (omega (arith, leb-true issue (minuteIn k s) (and-right a b q))))
-      (λ q.
-      let g : cond (dayExists (suc k) s) (some (minuteIn (suc k) s)) none ≡ some t = rw q at e in
-      by (dayExists (suc k) s)
-      (λ p.
-      let h : some (minuteIn (suc k) s) ≡ some t = rw p at g in
-      let here : minuteIn (suc k) s ≡ t = cc in
-      purge-at (suc k) (omega arith) p here (omega (arith, f .high)))
-      (λ p. let h : _≡_ {A = Option ℕ} none (some t) = rw p at g in apart cc))
+      let g : some (minuteIn j s) ≡ some t = rw q at d in
+      let here : minuteIn j s ≡ t = cc in
+      purge-at j near q here)
+      (λ q. purge-in js more (rw q at d))
 
 -- what a purge minute is, and whence
 pub purge-true : (issue : ℕ) (s : Stamp) (t : ℕ) → purgeOf issue s ≡ some t → Purges issue s t
-unfolding purgeOf
-purge-true issue s t e = go (monthOf issue) refl e
+purge-true issue s t e =
+    let x = ltb issue (startOf issueMonths) in
+    by (x && isTime s)
+    (λ u. go (ltb-true issue (startOf issueMonths) (and-left x (isTime s) u)) (and-right x (isTime s) u) (monthOf (issue - 1440)) refl)
+    (λ u. let g : _≡_ {A = Option ℕ} none (some t) = sym (purge-no issue s u) ∙ e in apart cc)
   where
-    go : (o : Option ℕ) → monthOf issue ≡ o → purgeUnder o issue s ≡ some t → Purges issue s t
-    go none q h = apart cc
-    go (some k) q h =
-        let a = ltb k issueMonths in
-        by (a && isTime s)
-        (λ p.
-        purge-in issue t k s (month-some issue k q) (ltb-true k issueMonths (and-left a (isTime s) p)) (and-right a (isTime s) p)
-        (rw p at h))
-        (λ p. let g : _≡_ {A = Option ℕ} none (some t) = rw p at h in apart cc)
+    go : issue < startOf issueMonths → isTime s ≡ true → (o : Option ℕ) → monthOf (issue - 1440) ≡ o → Purges issue s t
+    go low time none q = impossible (omega (arith, month-none (issue - 1440) q, start-issues))
+    go low time (some a) q =
+        let early = month-some (issue - 1440) a q in
+        by-order issue (startOf (suc a))
+        (λ h.
+        purge-in issue t a s (issue-same issue a early h) (early-known issue a early low) time (a ∷ suc a ∷ [])
+        (all-cons {x = a} (omega arith) (all-cons {x = suc a} (omega arith) all-nil))
+        (sym (same-month issue a s early low time h) ∙ e))
+        (λ h.
+        purge-in issue t (suc a) s (issue-next issue a early low h) (next-known issue a early low h) time (a ∷ suc a ∷ suc (suc a) ∷ [])
+        (all-cons {x = a} (omega arith) (all-cons {x = suc a} (omega arith) (all-cons {x = suc (suc a)} (omega arith) all-nil)))
+        (sym (next-month issue a s early low time h) ∙ e))
 
 -- the month of a purge minute
 pub falls-purge : (issue : ℕ) (s : Stamp) (t : ℕ) (p : Purges issue s t) → Falls t (p .at)
@@ -483,8 +641,8 @@ pub record Stamped (t : ℕ) (s : Stamp) : Type 0 where
   pub stamp : date .stamp ≡ s
 
 module _ (issue : ℕ) (s : Stamp) (t : ℕ) (e : purgeOf issue s ≡ some t) where
-  -- a purge minute is not before the issue
-  pub purge-from : issue ≤ t
+  -- a purge minute is not before the issue less 1,440 minutes
+  pub purge-from : issue ≤ t + 1440
   purge-from = purge-true issue s t e .from
 
   -- a purge minute stands before the calendar's end

@@ -2,14 +2,14 @@
 use Prim.Native.Nat.{ℕ, suc, _+_, _-_, _*_, _/_, _%_, _≤_, _<_}
 use native.Mathlib.Omega.{arith}
 use mathlib.Core.Path.{_≡_, refl, sym, ap, _∙_}
-use mathlib.Core.Bool.{Bool, true, false, not, _&&_, _||_, or-true}
+use mathlib.Core.Bool.{Bool, true, false, not, cond, _&&_, _||_, or-true}
 use mathlib.Core.List.{List, [], _∷_}
 use mathlib.Core.Option.{Option, none, some}
 use lib.ListN.{getD}
 use lib.Dec.{leb, ltb, eqb}
 use mir.Syntax.{w64}
 use mir.Val.{Fits}
-use borrow.Author.Tests.{leb-true, ltb-true, lt-ltb, le-leb, lt-leb, ne-eqb, eq-eqb, eqb-true, not-true, not-false}
+use borrow.Author.Tests.{leb-true, ltb-true, lt-ltb, le-ltb, le-leb, lt-leb, ne-eqb, eq-eqb, eqb-true, not-true, not-false}
 use Rattle.laws.proofs.Tests.{by, by-order, impossible, apart, and-left, and-right, same-test}
 use Rattle.laws.proofs.Tables.{every-at}
 use Rattle.laws.specs.Lists.{every}
@@ -23,12 +23,13 @@ use Rattle.calendar.specs.Calendar.{allMonths, startOf, isTime, minuteIn
 use Rattle.calendar.specs.declared.Moment.the-variants as moment
 use Rattle.calendar.specs.declared.Dated.the-variants as dated
 use Rattle.calendar.specs.Paper.{paperMoment, paperDated}
-use Rattle.calendar.specs.Purge.{notBefore, purgeIn, purgeOf}
+use Rattle.calendar.specs.Purge.{purgeOf}
 use Rattle.calendar.specs.declared.Windowed.the-variants as windowed
-use Rattle.calendar.specs.Window.{windowOf, paperWindowed}
+use Rattle.calendar.specs.Window.{earliest, windowOf, paperWindowed}
 use Rattle.calendar.specs.Months.{Twelve, InYear, Time, lengthIn, monthAt, monthIn, paperFound}
 use Rattle.calendar.proofs.Laws.{passes, passes-at, start-next, days-high, start-mono, start-year, start-end, days-of, Falls, falls-low, month-some}
-use Rattle.calendar.proofs.Laws.{month-is, month-past, time-true, month-true, known-month, issue-true, issue-month, date-is}
+use Rattle.calendar.proofs.Laws.{month-is, month-past, month-none, time-true, month-true, known-month, issue-true, issue-month, date-is, start-issues}
+use Rattle.calendar.proofs.Laws.{fits, early-test, purge-no, search-first, search-second, search-end, search-third, search-gone}
 
 -- ---- month_length
 -- the code's list, January to December
@@ -85,13 +86,13 @@ month-issue year month issue e = same-test (issue || (eqb year 2100 && eqb month
         (λ i. rw (e, issue-month year month (record { from = k .from; to = omega arith; first = k .first; last = k .last })))
         (λ i. rw (eq-eqb year 2100 (omega arith), eq-eqb month 1 (omega arith)) (or-true issue))
 
--- ---- next_length
-module _ (year month r : ℕ) (m : InYear year month) where
-  pub next-year : month ≡ 12 → r ≡ lengthIn (year + 1) 1 → r ≡ daysIn (suc (monthNumber year month))
-  next-year h e = e ∙ sym (days-of (suc (monthNumber year month)) (year + 1) 1 (omega arith) (omega arith))
+-- ---- length_after
+module _ (year month later r : ℕ) (m : InYear year month) (h : later ≤ 12) where
+  pub after-year : 12 < month + later → r ≡ lengthIn (year + 1) (month + later - 12) → r ≡ daysIn (monthNumber year month + later)
+  after-year l e = e ∙ sym (days-of (monthNumber year month + later) (year + 1) (month + later - 12) (omega arith) (omega arith))
 
-  pub next-month : (month ≡ 12 → ⊥) → r ≡ lengthIn year (month + 1) → r ≡ daysIn (suc (monthNumber year month))
-  next-month h e = e ∙ sym (days-of (suc (monthNumber year month)) year (month + 1) (omega arith) (omega arith))
+  pub after-here : month + later ≤ 12 → r ≡ lengthIn year (month + later) → r ≡ daysIn (monthNumber year month + later)
+  after-here l e = e ∙ sym (days-of (monthNumber year month + later) year (month + later) (omega arith) (omega arith))
 
 -- ---- month_start
 -- so many months of the year are passed
@@ -257,15 +258,29 @@ module _ (t : ℕ) (r : Found) (e : paperFound r ≡ monthIn (monthOf t)) (m : M
   pub days-fit : Fits w64 (1440 * m .days)
   days-fit = omega (arith, days-most)
 
+  start-most : m .start ≤ 68418720
+  start-most = let st = stands t r e m q in omega (arith, start-low, falls-low t (st .k) (st .falls))
+
+  -- so long after the month's start, or after that of one of the two that follow
   module _ (x : ℕ) (h : x ≤ 44640) where
     pub sum-fits : Fits w64 (m .start + x)
-    sum-fits = let st = stands t r e m q in omega (arith, start-low, falls-low t (st .k) (st .falls))
+    sum-fits = omega (arith, start-most)
 
-    pub sums-fit : Fits w64 (1440 * m .days + (m .start + x))
-    sums-fit = let st = stands t r e m q in omega (arith, start-low, days-most, falls-low t (st .k) (st .falls))
+    pub next-fits : Fits w64 (m .start + x + 1440 * m .days)
+    next-fits = omega (arith, start-most, days-most)
 
-  pub end-fits : (n : ℕ) → n ≤ 31 → Fits w64 (m .start + 1440 * m .days + 1440 * n)
-  end-fits n h = omega (arith, sums-fit (1440 * n) (omega arith))
+    pub third-fits : (n : ℕ) → n ≤ 31 → Fits w64 (m .start + x + 1440 * m .days + 1440 * n)
+    third-fits n l = omega (arith, start-most, days-most)
+
+  module _ (n : ℕ) (h : n ≤ 31) where
+    pub third-most : m .start + 1440 * m .days + 1440 * n ≤ 100000000
+    third-most = omega (arith, start-most, days-most)
+
+    pub end-fits : Fits w64 (m .start + 1440 * m .days + 1440 * n)
+    end-fits = omega (arith, third-most)
+
+    pub longer-fits : Fits w64 (m .start + 1440 * m .days + 1440 * n + 1440 * n)
+    longer-fits = omega (arith, third-most)
 
 -- ---- date_of
 pub date-on : (t : ℕ) (m : Month) → Stands t m
@@ -312,83 +327,130 @@ module _ (d : Date) (a b : Bool) (ea : a ≡ isMonth (d .year) (d .month)) (eb :
       minute-here g start after e f = rw (← ea, ← eb, both, days-here, le-leb (d .stamp .day) n g, e, f)
 
 -- ---- purge_of
-pub purge-none : (issue : ℕ) (s : Stamp) → monthOf issue ≡ none → paperMoment moment.Nothing ≡ purgeOf issue s
-unfolding purgeOf
-purge-none issue s q = rw q
+-- the days of the months that follow the one that was found
+after-days : (t : ℕ) (m : Month) (st : Stands t m) (n later : ℕ) → n ≡ daysIn (monthNumber (m .year) (m .month) + later) → n ≡ daysIn (st .k + later)
+after-days t m st n later e =
+    let same : monthNumber (m .year) (m .month) ≡ st .k = omega (arith, st .year, st .month) in
+    e ∙ ap (λ (x : ℕ). daysIn (x + later)) same
 
-pub usable-time : (s : Stamp) (u y : Bool) → u ≡ isTime s → not (y && u) ≡ false → Time s
-usable-time s u y e h = time-true s (sym e ∙ and-right y u (not-false (y && u) h))
+module _ (issue : ℕ) (s : Stamp) (u : Bool) (eu : u ≡ isTime s) where
+  pub purge-unusable : not (ltb issue 68374080 && u) ≡ true → paperMoment moment.Nothing ≡ purgeOf issue s
+  purge-unusable h = sym (purge-no issue s (rw (start-issues, ← eu) (not-true (ltb issue 68374080 && u) h)))
 
--- an issue of the years up to 2099
-year-test : (issue : ℕ) (m : Month) (st : Stands issue m) → leb (m .year) 2099 ≡ ltb (st .k) issueMonths
-year-test issue m st =
-    same-test (leb (m .year) 2099) (ltb (st .k) issueMonths)
-    (λ h. lt-ltb (st .k) issueMonths (omega (arith, leb-true (m .year) 2099 h, st .year)))
-    (λ h. le-leb (m .year) 2099 (omega (arith, ltb-true (st .k) issueMonths h, st .year)))
+  module _ (h : not (ltb issue 68374080 && u) ≡ false) where
+    usable : (ltb issue 68374080 && u) ≡ true
+    usable = not-false (ltb issue 68374080 && u) h
 
-next-days : (issue : ℕ) (m : Month) (st : Stands issue m) (n : ℕ) → n ≡ daysIn (suc (monthNumber (m .year) (m .month))) → n ≡ daysIn (suc (st .k))
-next-days issue m st n e =
-    let same : monthNumber (m .year) (m .month) ≡ st .k = omega arith in
-    e ∙ ap (λ (x : ℕ). daysIn (suc x)) same
+    low : issue < startOf issueMonths
+    low = omega (arith, start-issues, ltb-true issue 68374080 (and-left (ltb issue 68374080) u usable))
 
-module _ (issue : ℕ) (s : Stamp) (m : Month) (st : Stands issue m) (u : Bool) (eu : u ≡ isTime s) where
-  pub purge-unusable : not (leb (m .year) 2099 && u) ≡ true → paperMoment moment.Nothing ≡ purgeOf issue s
-  unfolding purgeOf
-  purge-unusable h = rw (st .found-at, ← year-test issue m st, ← eu, not-true (leb (m .year) 2099 && u) h)
+    time : isTime s ≡ true
+    time = sym eu ∙ and-right (ltb issue 68374080) u usable
 
-  module _ (h : not (leb (m .year) 2099 && u) ≡ false) where
-    usable : (leb (m .year) 2099 && u) ≡ true
-    usable = not-false (leb (m .year) 2099 && u) h
+    pub usable-time : Time s
+    usable-time = time-true s time
 
-    purge-usable : purgeOf issue s ≡ purgeIn (st .k) issue s
-    unfolding purgeOf
-    purge-usable = rw (st .found-at, ← year-test issue m st, ← eu, usable)
+    module _ (from : ℕ) (ef : from ≡ earliest issue) where
+      pub purge-none : monthOf from ≡ none → paperMoment moment.Nothing ≡ purgeOf issue s
+      purge-none q = impossible (omega (arith, month-none from q, low, start-issues))
 
-    module _ (after : ℕ) (ea : after ≡ (s .day - 1) * 1440 + s .hour * 60 + s .minute) where
-      here-is : m .start + after ≡ minuteIn (st .k) s
-      unfolding minuteIn
-      here-is = rw (ea, st .start)
+      module _ (m : Month) (st : Stands from m) (after : ℕ) (ea : after ≡ (s .day - 1) * 1440 + s .hour * 60 + s .minute) where
+        early : Falls (issue - 1440) (st .k)
+        early = rw ef at (st .falls)
 
-      here-test : (leb (s .day) (m .days) && leb issue (m .start + after)) ≡ (dayExists (st .k) s && notBefore issue (minuteIn (st .k) s))
-      here-test = rw (here-is, st .days)
+        here-is : m .start + after ≡ minuteIn (st .k) s
+        unfolding minuteIn
+        here-is = rw (ea, st .start)
 
-      pub purge-here : (leb (s .day) (m .days) && leb issue (m .start + after)) ≡ true → paperMoment (moment.At (m .start + after)) ≡ purgeOf issue s
-      unfolding purgeIn
-      purge-here t = rw (purge-usable, ← here-test, t, here-is)
+        first-test : (leb (s .day) (m .days) && leb from (m .start + after)) ≡ fits issue s (st .k)
+        first-test = rw (ef, early-test issue (m .start + after), here-is, st .days)
 
-      module _ (t : (leb (s .day) (m .days) && leb issue (m .start + after)) ≡ false) (n : ℕ) (en : n ≡ daysIn (suc (monthNumber (m .year) (m .month)))) where
-        pub purge-next : s .day ≤ n → paperMoment (moment.At (1440 * m .days + (m .start + after))) ≡ purgeOf issue s
-        unfolding purgeIn minuteIn
-        purge-next d =
-            rw (purge-usable, ← here-test, t, ← next-days issue m st n en, le-leb (s .day) n d)
-            (ap some (omega (arith, st .start, st .days, start-next (st .k))))
+        pub purge-first : (leb (s .day) (m .days) && leb from (m .start + after)) ≡ true → paperMoment (moment.At (m .start + after)) ≡ purgeOf issue s
+        purge-first t = rw here-is (sym (search-first issue (st .k) s early low time (sym first-test ∙ t)))
 
-        pub purge-gone : n < s .day → paperMoment moment.Nothing ≡ purgeOf issue s
-        unfolding purgeIn
-        purge-gone d = rw (purge-usable, ← here-test, t, ← next-days issue m st n en, lt-leb (s .day) n d)
+        module _ (t : (leb (s .day) (m .days) && leb from (m .start + after)) ≡ false) (n : ℕ) (en : n ≡ daysIn (monthNumber (m .year) (m .month) + 1)) where
+          none-first : fits issue s (st .k) ≡ false
+          none-first = sym first-test ∙ t
+
+          next-days : n ≡ daysIn (suc (st .k))
+          next-days = let same : st .k + 1 ≡ suc (st .k) = omega arith in after-days from m st n 1 en ∙ ap daysIn same
+
+          next-start : m .start + 1440 * m .days ≡ startOf (suc (st .k))
+          next-start = omega (arith, st .start, st .days, start-next (st .k))
+
+          pub purge-second : s .day ≤ n → paperMoment (moment.At (m .start + after + 1440 * m .days)) ≡ purgeOf issue s
+          unfolding minuteIn
+          purge-second d =
+              let there : minuteIn (suc (st .k)) s ≡ m .start + after + 1440 * m .days = omega (arith, next-start) in
+              sym (search-second issue (st .k) s early low time none-first (rw (← next-days) (le-leb (s .day) n d)) ∙ ap some there)
+
+          module _ (d : n < s .day) where
+            none-second : dayExists (suc (st .k)) s ≡ false
+            none-second = rw (← next-days) (lt-leb (s .day) n d)
+
+            module _ (l : ℕ) (el : l ≡ daysIn (monthNumber (m .year) (m .month) + 2)) where
+              third-days : l ≡ daysIn (suc (suc (st .k)))
+              third-days = let same : st .k + 2 ≡ suc (suc (st .k)) = omega arith in after-days from m st l 2 el ∙ ap daysIn same
+
+              pub purge-third : (leb (m .start + 1440 * m .days) issue && leb (s .day) l) ≡ true
+                  → paperMoment (moment.At (m .start + after + 1440 * m .days + 1440 * n)) ≡ purgeOf issue s
+              unfolding minuteIn
+              purge-third g =
+                  let a = leb (m .start + 1440 * m .days) issue in
+                  let b = leb (s .day) l in
+                  let there : minuteIn (suc (suc (st .k))) s ≡ m .start + after + 1440 * m .days + 1440 * n
+                  = omega (arith, next-start, next-days, start-next (suc (st .k))) in
+                  let next : startOf (suc (st .k)) ≤ issue = omega (arith, next-start, leb-true (m .start + 1440 * m .days) issue (and-left a b g)) in
+                  sym (search-third issue (st .k) s early low time none-first none-second next (rw (← third-days) (and-right a b g)) ∙ ap some there)
+
+              pub purge-gone : (leb (m .start + 1440 * m .days) issue && leb (s .day) l) ≡ false → paperMoment moment.Nothing ≡ purgeOf issue s
+              purge-gone g =
+                  by-order issue (m .start + 1440 * m .days)
+                  (λ i. sym (search-end issue (st .k) s early low time none-first none-second (omega (arith, next-start))))
+                  (λ i.
+                  let b : leb (s .day) l ≡ false = rw (le-leb (m .start + 1440 * m .days) issue i) at g in
+                  sym (search-gone issue (st .k) s early low time none-first none-second (omega (arith, next-start)) (rw (← third-days) b)))
+
+-- ---- end_after
+module _ (issue second third days : ℕ) where
+  pub ends-second : issue < second → third ≡ cond (ltb issue second) third (third + 1440 * days)
+  ends-second h = rw (lt-ltb issue second h)
+
+  pub ends-third : second ≤ issue → third + 1440 * days ≡ cond (ltb issue second) third (third + 1440 * days)
+  ends-third h = rw (le-ltb issue second h)
 
 -- ---- window_of
-pub window-none : (issue : ℕ) → monthOf issue ≡ none → paperWindowed windowed.Nothing ≡ windowOf issue
+pub window-late : (issue : ℕ) → 68374080 ≤ issue → paperWindowed windowed.Nothing ≡ windowOf issue
 unfolding windowOf
-window-none issue q = rw q
+window-late issue h = rw (le-ltb issue (startOf issueMonths) (omega (arith, start-issues)))
 
-module _ (issue : ℕ) (m : Month) (st : Stands issue m) where
-  pub window-late : 2099 < m .year → paperWindowed windowed.Nothing ≡ windowOf issue
-  unfolding windowOf
-  window-late h = rw (st .found-at, ← year-test issue m st, lt-leb (m .year) 2099 h)
+module _ (issue : ℕ) (low : issue < 68374080) (from : ℕ) (ef : from ≡ earliest issue) where
+  pub window-none : monthOf from ≡ none → paperWindowed windowed.Nothing ≡ windowOf issue
+  window-none q = impossible (omega (arith, month-none from q))
 
-  pub window-is : (n : ℕ) → m .year ≤ 2099 → n ≡ daysIn (suc (monthNumber (m .year) (m .month)))
+  pub window-is : (m : Month) (st : Stands from m) (n l end : ℕ)
+      → n ≡ daysIn (monthNumber (m .year) (m .month) + 1)
+      → l ≡ daysIn (monthNumber (m .year) (m .month) + 2)
+      → end ≡ cond (ltb issue (m .start + 1440 * m .days)) (m .start + 1440 * m .days + 1440 * n) (m .start + 1440 * m .days + 1440 * n + 1440 * l)
       → paperWindowed (windowed.Is (record {
-        issue = issue;
-        since = issue - m .start;
-        next = m .start + 1440 * m .days;
+        from = from;
+        since = from - m .start;
         lasts = 1440 * m .days;
-        end = m .start + 1440 * m .days + 1440 * n;
+        second = m .start + 1440 * m .days;
+        third = m .start + 1440 * m .days + 1440 * n;
+        longer = m .start + 1440 * m .days + 1440 * n + 1440 * n;
+        end = end;
       }))
       ≡ windowOf issue
   unfolding windowOf
-  window-is n h en =
+  window-is m st n l end en el ee =
       let k = st .k in
-      let next : m .start + 1440 * m .days ≡ startOf (suc k) = omega (arith, st .start, st .days, start-next k) in
-      let end : startOf (suc k) + 1440 * n ≡ startOf (suc (suc k)) = omega (arith, start-next (suc k), next-days issue m st n en) in
-      rw (next, end, st .start, st .days, st .found-at, ← year-test issue m st, le-leb (m .year) 2099 h)
+      let one : k + 1 ≡ suc k = omega arith in
+      let two : k + 2 ≡ suc (suc k) = omega arith in
+      let found-at : monthOf (issue - 1440) ≡ some k = rw ef at (st .found-at) in
+      let next-days : n ≡ daysIn (suc k) = after-days from m st n 1 en ∙ ap daysIn one in
+      let last-days : l ≡ daysIn (suc (suc k)) = after-days from m st l 2 el ∙ ap daysIn two in
+      let second : m .start + 1440 * m .days ≡ startOf (suc k) = omega (arith, st .start, st .days, start-next k) in
+      let third : startOf (suc k) + 1440 * n ≡ startOf (suc (suc k)) = omega (arith, start-next (suc k)) in
+      let last : startOf (suc (suc k)) + 1440 * l ≡ startOf (suc (suc (suc k))) = omega (arith, start-next (suc (suc k))) in
+      rw (ee, second, third, last, st .start, st .days, next-days, ef, found-at, lt-ltb issue (startOf issueMonths) (omega (arith, start-issues)))

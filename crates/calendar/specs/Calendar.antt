@@ -41,7 +41,7 @@ monthLength year october = 31
 monthLength year november = 30
 monthLength year december = 31
 
--- "the following month"
+-- "the month after"
 unfoldable pub nextMonth : MonthName → MonthName
 nextMonth january = february
 nextMonth february = march
@@ -100,7 +100,7 @@ isTime s = leb 1 (s .day) && leb (s .day) 31 && leb (s .hour) 23 && leb (s .minu
 unfoldable pub minuteIn : ℕ → Stamp → ℕ
 minuteIn k s = startOf k + ((s .day - 1) * 1440 + s .hour * 60 + s .minute)
 
--- "if that day exists"
+-- the day exists in month k
 abbrev pub dayExists : ℕ → Stamp → Bool
 dayExists k s = leb (s .day) (daysIn k)
 

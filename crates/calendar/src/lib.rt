@@ -1,9 +1,11 @@
-// Dates, minutes and the purge rule of document 01, "Time".
+// Dates, minutes and the purge rule of document 01, "Time", as document 02, R-2, amends it.
 ghost use mathlib.Core.Path.{_≡_};
-ghost use Prim.Native.Nat.{suc, _+_, _-_, _*_, _≤_};
+ghost use Prim.Native.Nat.{_+_, _-_, _*_, _≤_};
+ghost use mathlib.Core.Bool.{cond};
+ghost use lib.Dec.{ltb};
 ghost use Rattle.calendar.specs.Calendar.{isIssueMonth, isMonth, isTime, monthNumber, daysIn, startOf, monthOf, minuteOf, dateOf};
 ghost use Rattle.calendar.specs.Purge.{purgeOf};
-ghost use Rattle.calendar.specs.Window.{within, windowOf, paperWindowed};
+ghost use Rattle.calendar.specs.Window.{earliest, within, windowOf, paperWindowed};
 ghost use Rattle.calendar.specs.Paper.{paperMoment, paperDated};
 ghost use Rattle.calendar.specs.Months.{Twelve, InYear, Time, lengthIn, monthIn, paperFound};
 
@@ -47,8 +49,14 @@ enum Found {
 // The lengths of the months, January to December, of a year that is no leap year.
 const LENGTHS: [usize; 12] = [31, 28, 31, 30, 31, 30, 31, 31, 30, 31, 30, 31];
 
+// 2100-01-01 0000, where the issues end.
+const ISSUES: usize = 68374080;
+
 // 2100-02-01 0000, where the calendar ends.
 const END: usize = 68418720;
+
+// How long before its issue a purge may be.
+const LATE: usize = 1440;
 
 pub fn is_issue_month(year: usize, month: usize) -> bool
     ensures { λ r. ⌜ r ≡ isIssueMonth year month ⌝ }
@@ -103,16 +111,17 @@ fn month_start(year: usize, month: usize) -> usize
     start
 }
 
-// The days of the month that follows.
-fn next_length(year: usize, month: usize) -> usize
-    requires { ⌜ InYear year month ⌝ }
-    ensures is { λ r. ⌜ r ≡ daysIn (suc (monthNumber year month)) ⌝ }
+// The days of the month that comes so many months later.
+fn length_after(year: usize, month: usize, later: usize) -> usize
+    requires { ⌜ InYear year month × later ≤ 12 ⌝ }
+    ensures is { λ r. ⌜ r ≡ daysIn (monthNumber year month + later) ⌝ }
     ensures most { λ r. ⌜ r ≤ 31 ⌝ }
 {
-    if month == 12 {
-        month_length(year + 1, 1)
+    let at = month + later;
+    if 12 < at {
+        month_length(year + 1, at - 12)
     } else {
-        month_length(year, month + 1)
+        month_length(year, at)
     }
 }
 
@@ -183,35 +192,59 @@ pub fn minute_of(date: Date) -> Moment
     Moment::Nothing
 }
 
+// The earliest minute that can be a purge minute. There is none before minute 0.
+fn earliest(issue: usize) -> usize
+    ensures { λ r. ⌜ r ≡ earliest issue ⌝ }
+{
+    if issue < LATE {
+        return 0;
+    }
+    issue - LATE
+}
+
 pub fn purge_of(issue: usize, s: Stamp) -> Moment
     ensures { λ r. ⌜ paperMoment r ≡ purgeOf issue s ⌝ }
 {
-    let Found::In(m) = month_of(issue) else {
-        return Moment::Nothing;
-    };
-    let usable = (m.year <= 2099) & is_time(s);
+    let usable = (issue < ISSUES) & is_time(s);
     if !usable {
         return Moment::Nothing;
     }
+    // It is not past the issue, so the calendar has its month.
+    let from = earliest(issue);
+    let Found::In(m) = month_of(from) else {
+        return Moment::Nothing;
+    };
     let here = m.start + time_in(s);
-    if (s.day <= m.days) & (issue <= here) {
+    if (s.day <= m.days) & (from <= here) {
         return Moment::At(here);
     }
-    if s.day <= next_length(m.year, m.month) {
-        return Moment::At(1440 * m.days + here);
+    // No minute of a later month is too early.
+    let lasts = 1440 * m.days;
+    let next = here + lasts;
+    let days = length_after(m.year, m.month, 1);
+    if s.day <= days {
+        return Moment::At(next);
+    }
+    // If the issue itself is of the next month, the month after it is the third from here.
+    let last = length_after(m.year, m.month, 2);
+    if (m.start + lasts <= issue) & (s.day <= last) {
+        return Moment::At(next + 1440 * days);
     }
     Moment::Nothing
 }
 
 // The minutes that are their own purge minute under an issue. It is worked out once for the issue, and then asked of each minute.
 pub struct Window {
-    // The issue, and how long after its month's start it is.
-    pub issue: usize,
+    // The earliest minute, how long after its month's start it is, and how long that month lasts.
+    pub from: usize,
     pub since: usize,
-    // Where the next month starts, and how long the issue's month lasts.
-    pub next: usize,
     pub lasts: usize,
-    // Where the next month ends.
+    // Where the next month starts.
+    pub second: usize,
+    // Where the month after that starts, and where in it the days begin that the second has not.
+    pub third: usize,
+    pub longer: usize,
+    // Where the month after the issue's ends.
     pub end: usize,
 }
 
@@ -220,23 +253,40 @@ pub enum Windowed {
     Nothing,
 }
 
+// Where the month after the issue's ends. The issue is of the first month, which the second follows, or of the second; the third has so many days.
+fn end_after(issue: usize, second: usize, third: usize, days: usize) -> usize
+    requires { ⌜ third ≤ 100000000 × days ≤ 31 ⌝ }
+    ensures { λ r. ⌜ r ≡ cond (ltb issue second) third (third + 1440 * days) ⌝ }
+{
+    if issue < second {
+        return third;
+    }
+    third + 1440 * days
+}
+
 pub fn window_of(issue: usize) -> Windowed
     ensures { λ r. ⌜ paperWindowed r ≡ windowOf issue ⌝ }
 {
-    let Found::In(m) = month_of(issue) else {
-        return Windowed::Nothing;
-    };
-    if 2099 < m.year {
+    if ISSUES <= issue {
         return Windowed::Nothing;
     }
+    // It is not past the issue, so the calendar has its month.
+    let from = earliest(issue);
+    let Found::In(m) = month_of(from) else {
+        return Windowed::Nothing;
+    };
     let lasts = 1440 * m.days;
-    let next = m.start + lasts;
-    let end = next + 1440 * next_length(m.year, m.month);
+    let then = 1440 * length_after(m.year, m.month, 1);
+    let second = m.start + lasts;
+    let third = second + then;
+    let end = end_after(issue, second, third, length_after(m.year, m.month, 2));
     Windowed::Is(Window {
-        issue,
-        since: issue - m.start,
-        next,
+        from,
+        since: from - m.start,
         lasts,
+        second,
+        third,
+        longer: third + then,
         end,
     })
 }
@@ -244,16 +294,17 @@ pub fn window_of(issue: usize) -> Windowed
 pub fn is_within(w: Window, minute: usize) -> bool
     ensures { λ r. ⌜ r ≡ within w minute ⌝ }
 {
-    if minute < w.issue {
+    if minute < w.from {
         return false;
     }
-    if minute < w.next {
+    if minute < w.second {
         return true;
     }
-    if w.end <= minute {
-        return false;
+    // The same DDHHMM in the first month comes first, if it is there and not too early.
+    if minute < w.third {
+        let over = minute - w.second;
+        return !((over < w.lasts) & (w.since <= over));
     }
-    // The same DDHHMM in the issue's month comes first, if it is there and not before the issue.
-    let over = minute - w.next;
-    !((over < w.lasts) & (w.since <= over))
+    let over = minute - w.third;
+    (minute < w.end) & !((over < w.lasts) & (w.since <= over)) & (w.longer <= minute)
 }

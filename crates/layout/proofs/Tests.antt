@@ -8,8 +8,7 @@ use mathlib.Core.List.{List, _∷_}
 use lib.ListN.{length, getD}
 use lib.Dec.{leb, ltb, eqb}
 use borrow.Author.Tests.{lt-leb, eq-eqb, ne-eqb, not-true, not-false}
-use Rattle.calendar.specs.Calendar.{startOf, issueMonths}
-use Rattle.calendar.proofs.Laws.{start-year}
+use Rattle.calendar.proofs.Laws.{start-issues}
 use Rattle.codes.specs.Places.{upward}
 use Rattle.blocks.specs.Block.{numberAt, blockOf, bookLength}
 use Rattle.blocks.specs.Good.{isUsed, isUnused}
@@ -52,13 +51,9 @@ module _ (whole : Bool) (p : ℕ → Bool) (n i : ℕ) (s : Scan whole p n i) wh
     scan-on e = let f : good ≡ true = not-false good e in record { left = omega arith; rest = scan-step ∙ rw f }
 
 -- ---- block 0
--- the first minute of 2100
-pub issue-end : startOf issueMonths ≡ 68374080
-issue-end = omega (arith, start-year 130)
-
 pub issue-is : (issue : ℕ) → ltb issue 68374080 ≡ isIssue issue
 unfolding isIssue
-issue-is issue = ap (ltb issue) (sym issue-end)
+issue-is issue = ap (ltb issue) (sym start-issues)
 
 and-false : (t : Bool) → (t && false) ≡ false
 and-false true = refl

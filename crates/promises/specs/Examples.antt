@@ -1,4 +1,4 @@
--- Document 01, "Examples on both sides": the lines marked P, as one table of what the written rules say.
+-- Document 01, "Examples on both sides": the lines marked P, as document 02 amends them, as one table of what the written rules say.
 use Prim.Native.Nat.{ℕ}
 use Prim.Native.String.{String}
 use mathlib.Core.List.{List, [], _∷_, _++_}
@@ -112,7 +112,7 @@ holds (bbbIs bbb) = hasBbb bbb (bulletinRead bbb "")
 holds (stormIs end c) = hasStorm c (bulletinRead "CCA" end)
 holds (bulletinRefused bbb end r start) = isRefused r start (bulletinRead bbb end)
 
--- the lines in document 01's order, with its numerals
+-- the lines in document 01's order, with its numerals, and document 02's beside the line that they amend
 abbrev pub table : List Row
 table =
     writtenBack "MDC003-005>007-VAZ053-242100-" 5 "MDC003-005>007-VAZ053-242100-" 29
@@ -127,7 +127,20 @@ table =
     ∷ minuteIs (dateAt 2002 4 24 8 22) 16_993_942
     ∷ purgeIs (dateAt 2002 4 24 8 22) "MDC001-240822-" 16_993_942
     ∷ purgeIs (dateAt 2001 12 31 23 0) "MDC001-010500-" 16_831_020
-    ∷ blockRefused (dateAt 2003 1 31 0 0) "MDC001-301200-" 5 7
+    -- document 02, R-2: this was refused
+    ∷ purgeIs (dateAt 2003 1 31 0 0) "MDC001-301200-" 17_398_800
+    -- this still is: 30 January is a minute too early, and February has no 30th
+    ∷ blockRefused (dateAt 2003 1 31 12 1) "MDC001-301200-" 5 7
+    ∷ purgeIs (dateAt 2002 5 1 1 0) "MDC001-302300-" 17_003_460
+    -- 1,440 minutes before the issue, and 1,441
+    ∷ purgeIs (dateAt 2002 4 24 8 22) "MDC001-230822-" 16_992_502
+    ∷ purgeIs (dateAt 2002 4 24 8 22) "MDC001-230821-" 17_035_701
+    -- the month before January is December of the year before; before January 1970 there is none
+    ∷ purgeIs (dateAt 2002 1 1 1 0) "MDC001-312300-" 16_830_660
+    ∷ purgeIs (dateAt 1970 1 1 1 0) "MDC001-312300-" 44_580
+    -- a minute too early in January, no 31st in February: 31 March
+    ∷ purgeIs (dateAt 2003 2 1 0 51) "MDC001-310050-" 17_484_530
+    ∷ purgeIs (dateAt 2099 12 31 23 0) "MDC001-010500-" 68_374_380
     ∷ bbbIs "CCX"
     ∷ bbbIs "CCZ"
     ∷ bulletinRefused "CCY" "" 3 0

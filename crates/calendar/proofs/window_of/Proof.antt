@@ -1,4 +1,5 @@
-use Rattle.calendar.proofs.Ways.{none-found, stands, start-low, in-year, days-most, days-fit, sum-fits, end-fits, window-none, window-late, window-is}
+use Rattle.calendar.proofs.Ways.{none-found, stands, start-low, in-year, days-most, days-fit, sum-fits, third-most, end-fits, longer-fits}
+use Rattle.calendar.proofs.Ways.{window-late, window-none, window-is}
 use borrow.Author.Needs.{needs}
 use Rattle.calendar.proofs.window_of.Statement.{statement}
 use Rattle.calendar.proofs.window_of.Tie as tie
@@ -7,15 +8,19 @@ pub window-of-spec : {M : Type 1} → statement M
 window-of-spec =
     tie.close
     (tie.spec
+    (λ c. search (window-late, needs))
+    (λ c κs. search needs)
     (λ c κs. search needs)
     (λ c. search needs)
     (λ c. search needs)
     (λ c. search (window-none, none-found, needs))
-    (λ c. search (window-late, stands, needs))
     (λ c. search (days-fit, needs))
-    (λ c. search (sum-fits, days-most, needs))
-    (λ c κs. search (in-year, needs))
+    (λ c κs. (search (in-year, needs), search needs))
     (λ c. search needs)
+    (λ c. search (sum-fits, days-most, needs))
     (λ c. search (end-fits, needs))
+    (λ c κs. (search (in-year, needs), search needs))
+    (λ c κs. (search (third-most, needs), search needs))
     (λ c. search (start-low, needs))
+    (λ c. search (longer-fits, needs))
     (λ c. search (window-is, stands, needs)))
