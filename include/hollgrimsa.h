@@ -212,7 +212,8 @@ uint64_t hollgrimsa_add(uint8_t *book, size_t book_length, uint64_t draft, uint6
 /* Removes a place from the draft's copy, and answers 1 if it was there, else 0. Refusals: 1; 12; 13; 24 (place); 15; 16; 20. */
 uint64_t hollgrimsa_remove(uint8_t *book, size_t book_length, uint64_t draft, uint64_t segment, uint64_t place);
 
-/* Gives the draft's copy the purge minute that DD, HH and MM give under the book's issue, and answers it.
+/* Gives the draft's copy the purge minute that DD, HH and MM give under the book's issue, and answers it: the first such
+ * minute that is not more than 1,440 minutes before the issue, in the month before it, its own or the one after.
  * Refusals: 1; 12; 13; 24 (DD, HH, MM); 15; 16; 5. */
 uint64_t hollgrimsa_set_purge(uint8_t *book, size_t book_length, uint64_t draft, uint64_t segment, uint64_t day, uint64_t hour, uint64_t minute);
 

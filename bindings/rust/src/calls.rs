@@ -172,8 +172,8 @@ pub fn remove(book: &mut [u8], draft: u64, segment: u64, place: u64) -> Result<b
 }
 
 /// Gives a draft's copy the purge minute that this day, hour and minute give
-/// under the book's issue; answers it. Refusals: 1; 12; 13; 24 (time); 15; 16;
-/// 5.
+/// under the book's issue; answers it. It may be up to 1,440 minutes before the
+/// issue. Refusals: 1; 12; 13; 24 (time); 15; 16; 5.
 pub fn set_purge(
     book: &mut [u8],
     draft: u64,

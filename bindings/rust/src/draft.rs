@@ -120,7 +120,8 @@ impl<'a> Draft<'a> {
     }
 
     /// Gives the copy of a segment the purge minute of this day, hour and
-    /// minute under the book's issue; answers it.
+    /// minute under the book's issue; answers it. It may be up to 1,440
+    /// minutes before the issue, as that of a bulletin which went out late.
     ///
     /// # Errors
     /// 24 where one of them is out of range; 15 where there is no such

@@ -148,7 +148,7 @@ impl Refusal {
     /// ```
     /// use hollgrimsa::{Book, Reason};
     ///
-    /// let text = b"FPUS51 KXYZ 310000\nZFPXYZ\nMDC003-010000-\n$$\n";
+    /// let text = b"FPUS51 KXYZ 311300\nZFPXYZ\nMDC003-010000-\n$$\n";
     /// let mut book = Book::make(text, 2003, 1)?;
     /// let mut draft = book.open()?;
     /// draft.take(1)?;
@@ -156,7 +156,7 @@ impl Refusal {
     /// assert_eq!(refusal.reason, Reason::WrongTime);
     /// assert_eq!(refusal.offset(), None);
     ///
-    /// let text = b"FPUS51 KXYZ 310000\nZFPXYZ\nMDC003-301200-\n$$\n";
+    /// let text = b"FPUS51 KXYZ 311300\nZFPXYZ\nMDC003-301200-\n$$\n";
     /// assert_eq!(Book::make(text, 2003, 1).unwrap_err().offset(), Some(33));
     /// # Ok::<(), hollgrimsa::Refusal>(())
     /// ```

@@ -8,7 +8,8 @@ mod sides;
 
 use generate::calls::call;
 use generate::{books, Rng};
-use sides::{Call, Pair, Tally};
+use replay::Calls;
+use sides::{Call, Core, Pair, Tally};
 
 const BOOK: usize = hollgrimsa::BOOK_LENGTH;
 const FULL: usize = hollgrimsa::BLOCK_MOST;
@@ -78,7 +79,7 @@ fn random_bytes_with_mended_checks() {
 }
 
 /// Books with issues from one end of the calendar to the other and past it,
-/// and purges up to two months later.
+/// and purges from two days before to two months later.
 #[test]
 fn issues_and_purges() {
     let name = "issues and purges";
@@ -96,15 +97,37 @@ fn issues_and_purges() {
         for later in [0, 1, 44_639, 44_640, 89_279, u32::MAX] {
             try_each(&books::issued(issue, issue.wrapping_add(later)), &mut tally);
         }
+        for earlier in [1439, 1440, 1441] {
+            try_each(
+                &books::issued(issue, issue.wrapping_sub(earlier)),
+                &mut tally,
+            );
+        }
     }
     for _ in 0..6_000 {
         let day = rng.below(PURGES_END as usize / 1440) as u32;
         let issue = 1440 * day + rng.pick(&[0, 1, 720, 1439]);
-        let purge = issue + 1440 * rng.below(64) as u32 + rng.pick(&[0, 719, 1439]);
+        let later = 1440 * rng.below(66) as u32 + rng.pick(&[0, 719, 1439]);
+        let purge = issue.wrapping_add(later).wrapping_sub(2 * 1440);
         let mut pair = Pair::new(&books::issued(issue, purge));
         let _ = pair.perform(Call::Write(1), FULL, &mut tally);
     }
     tally.assert_seen(name, [0, 12]);
+}
+
+/// A bulletin of 2002-05-01 0100 that purges at `302300`: a book of the time
+/// when a purge was never before its issue has 30 May and is refused, and the
+/// book that is made anew has 30 April.
+#[test]
+fn a_book_of_the_old_purge_rule() {
+    let text = b"FPUS51 KXYZ 010100\nZFPXYZ\nMDC001-302300-\n$$\n";
+    let (april, may) = (17_003_460, 17_046_660);
+    let mut book = vec![0; BOOK];
+    Core.make(text, 2002, 5, &mut book).unwrap();
+    assert_eq!(book, books::repurged(&book, april));
+    let mut tally = Tally::new();
+    let mut old = Pair::new(&books::repurged(&book, may));
+    assert_eq!(old.perform(Call::Write(1), FULL, &mut tally), Err((12, 0)));
 }
 
 /// A change of one byte, its block's check mended or not, at every place of

@@ -177,7 +177,7 @@ fn texts_of_other_books() {
 /// The same text is another month's bulletin for another book.
 #[test]
 fn the_month_is_the_books() {
-    let text: &[u8] = b"FPUS51 KXYZ 310000\nZFPXYZ\nMDC001-301200-\n$$\n";
+    let text: &[u8] = b"FPUS51 KXYZ 311300\nZFPXYZ\nMDC001-301200-\n$$\n";
     let other: &[u8] = b"FPUS51 KXYZ 010000\nZFPXYZ\nMDC001-301200-\n$$\n";
     let mut tally = Tally::new();
     for (year, month, own, right) in [

@@ -64,7 +64,7 @@ fn refuse_texts(tally: &mut Tally) {
     for (text, number, place) in cases {
         refuse_text(&text, number, place, tally);
     }
-    let late = b"FPUS51 KXYZ 310000\nZFPXYZ\nMDC001-301200-\n$$\n";
+    let late = b"FPUS51 KXYZ 311200\nZFPXYZ\nMDC001-301159-\n$$\n";
     let answer = Core.head(late, 2003, 1);
     assert_eq!(answer, Err((5, 33)));
     assert_eq!(answer, Plain.head(late, 2003, 1));
@@ -184,10 +184,12 @@ fn refuse_edited(tally: &mut Tally) {
 
 #[test]
 fn a_purge_without_a_minute() {
-    let text = b"FPUS51 KXYZ 310000\nZFPXYZ\nMDC001-010000-\n$$\n";
+    let text = b"FPUS51 KXYZ 311200\nZFPXYZ\nMDC001-010000-\n$$\n";
     let mut book = vec![0; BOOK];
     Core.make(text, 2003, 1, &mut book).unwrap();
     let (mut pair, mut tally) = (Pair::new(&book), Tally::new());
     accept(&mut pair, &[Call::Open, Call::Take(1, 1)], &mut tally);
-    refuse(&mut pair, Call::SetPurge(1, 1, [30, 12, 0]), 5, &mut tally);
+    // More than a day before the issue, and February has no such day.
+    refuse(&mut pair, Call::SetPurge(1, 1, [30, 11, 59]), 5, &mut tally);
+    accept(&mut pair, &[Call::SetPurge(1, 1, [30, 12, 0])], &mut tally);
 }

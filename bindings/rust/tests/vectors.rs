@@ -1,10 +1,9 @@
 //! Both sides against inputs with right answers.
 //!
 //! The inputs, with endings `.in` and `.out`, are in the folder that
-//! HOLLGRIMSA_VECTORS names; without it they are skipped. cases-a and cases-b
-//! are of document 01; none of their lines begins `F` or `%`, so they print
-//! what they printed. level-01 has the lines of R-1 too. A request that
-//! changes what an older input prints leaves that input out here.
+//! HOLLGRIMSA_VECTORS names; without it they are skipped. level-02 is of
+//! document 01 with. A request that changes what an older input
+//! prints leaves that input out here, as R-2 did with those before it.
 
 mod plain;
 mod replay;
@@ -17,33 +16,13 @@ use replay::{replay, Calls};
 use sides::{Core, Plain};
 
 #[test]
-fn core_agrees_with_cases_a() {
-    compare("core", &Core, "cases-a");
+fn core_agrees_with_level_02() {
+    compare("core", &Core, "level-02");
 }
 
 #[test]
-fn core_agrees_with_cases_b() {
-    compare("core", &Core, "cases-b");
-}
-
-#[test]
-fn core_agrees_with_level_01() {
-    compare("core", &Core, "level-01");
-}
-
-#[test]
-fn plain_agrees_with_cases_a() {
-    compare("plain", &Plain, "cases-a");
-}
-
-#[test]
-fn plain_agrees_with_cases_b() {
-    compare("plain", &Plain, "cases-b");
-}
-
-#[test]
-fn plain_agrees_with_level_01() {
-    compare("plain", &Plain, "level-01");
+fn plain_agrees_with_level_02() {
+    compare("plain", &Plain, "level-02");
 }
 
 /// The lines `F n` and `% n`: the edited bulletin of the case's text and the

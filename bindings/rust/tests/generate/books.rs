@@ -30,6 +30,12 @@ pub fn made(rng: &mut Rng, segments: usize) -> Vec<u8> {
 pub fn issued(issue: u32, purge: u32) -> Vec<u8> {
     let mut book = made(&mut Rng::new(1), 1);
     layout::put_u32(block_mut(&mut book, 0), header::ISSUE, issue);
+    repurged(&book, purge)
+}
+
+/// The book with this purge in its first segment.
+pub fn repurged(book: &[u8], purge: u32) -> Vec<u8> {
+    let mut book = book.to_vec();
     layout::put_u32(block_mut(&mut book, 1), content::PURGE, purge);
     mend_all(&mut book);
     book

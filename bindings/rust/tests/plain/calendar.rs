@@ -104,6 +104,19 @@ impl Month {
         }
     }
 
+    fn previous(self) -> Self {
+        match self.month {
+            1 => Month {
+                year: self.year - 1,
+                month: 12,
+            },
+            month => Month {
+                month: month - 1,
+                ..self
+            },
+        }
+    }
+
     /// Its first minute.
     fn start(self) -> u32 {
         let years = self.year - FIRST_YEAR;
@@ -114,17 +127,22 @@ impl Month {
     }
 }
 
-/// An issue minute with the two months a purge may lie in.
+/// An issue minute with the three months a purge may lie in.
 #[derive(Clone, Copy)]
 pub struct Issue {
     pub minute: u32,
     /// The issue's month.
     pub month: Month,
-    /// That month's first minute and its minutes.
+    /// The month before, the issue's and the following one. January 1970 has
+    /// none before: an empty one stands for it.
+    around: [Stretch; 3],
+}
+
+/// A month's first minute and its minutes.
+#[derive(Clone, Copy)]
+struct Stretch {
     start: u32,
     length: u32,
-    /// The minutes of the following month.
-    next_length: u32,
 }
 
 impl Issue {
@@ -132,7 +150,7 @@ impl Issue {
     pub fn new(month: Month, time: DayTime) -> Option<Self> {
         let start = month.start();
         let issue = Issue::within(month, start, start + time.0);
-        (time.0 < issue.length).then_some(issue)
+        (time.0 < issue.around[1].length).then_some(issue)
     }
 
     /// The issue at this minute, if its year is one that may be lent.
@@ -142,38 +160,44 @@ impl Issue {
     }
 
     fn within(month: Month, start: u32, minute: u32) -> Self {
+        let before = match start {
+            0 => 0,
+            _ => month.previous().days() * DAY,
+        };
         let length = month.days() * DAY;
-        let next_length = month.next().days() * DAY;
+        let after = month.next().days() * DAY;
         Issue {
             minute,
             month,
-            start,
-            length,
-            next_length,
+            around: [
+                Stretch {
+                    start: start - before,
+                    length: before,
+                },
+                Stretch { start, length },
+                Stretch {
+                    start: start + length,
+                    length: after,
+                },
+            ],
         }
     }
 
-    /// The minute of a purge: in the issue's month, or else in the next.
+    /// The minute of a purge: the first in these months that has its day and
+    /// time and is not more than a day before the issue.
     pub fn purge(&self, time: DayTime) -> Option<u32> {
-        if time.0 < self.length && self.start + time.0 >= self.minute {
-            Some(self.start + time.0)
-        } else if time.0 < self.next_length {
-            Some(self.start + self.length + time.0)
-        } else {
-            None
-        }
+        self.around
+            .iter()
+            .filter(|month| time.0 < month.length)
+            .map(|month| month.start + time.0)
+            .find(|minute| minute + DAY >= self.minute)
     }
 
     /// Is this minute what its own DDHHMM gives?
     pub fn gives(&self, minute: u32) -> bool {
-        let Some(offset) = minute.checked_sub(self.start) else {
-            return false;
-        };
-        let in_month = if offset < self.length {
-            offset
-        } else {
-            offset - self.length
-        };
-        self.purge(DayTime(in_month)) == Some(minute)
+        self.around.iter().any(|month| {
+            let offset = minute.wrapping_sub(month.start);
+            offset < month.length && self.purge(DayTime(offset)) == Some(minute)
+        })
     }
 }
