@@ -4,6 +4,7 @@ pub mod Blocks
 pub mod Numbers
 pub mod Forms
 pub mod Contents
+pub mod Columns
 pub mod Scans
 pub mod Used
 pub mod Unused

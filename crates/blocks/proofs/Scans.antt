@@ -1,6 +1,5 @@
--- Scans of a block: the check's sum, zeros, ascending numbers, two parts side by side. Assumes nothing.
-use Prim.Native.Nat.{ℕ, suc, _+_, _*_, _-_, _%_, _≤_, _<_}
-use native.Mathlib.Nat.{mul-le-mul, add-zero, zero-add}
+-- Scans of a block: zeros, ascending numbers, two parts side by side. Assumes nothing.
+use Prim.Native.Nat.{ℕ, suc, _+_, _*_, _-_, _≤_, _<_}
 use native.Mathlib.Numerals.{add-one}
 use native.Mathlib.Omega.{arith}
 use mathlib.Core.Path.{_≡_, refl, sym, ap, _∙_}
@@ -14,47 +13,10 @@ use borrow.Author.Tests.{eqb-true, eq-eqb, ne-eqb}
 use Rattle.laws.proofs.Tests.{same-test, and-left, and-right}
 use Rattle.codes.specs.Places.{ascends, placesEnd}
 use Rattle.codes.proofs.Climbs.{Climbs, climbs-start, climbs-on, climbs-done}
-use Rattle.blocks.specs.Block.{sumTo, checkOf, checked, allZero, numberAt, numbersOf, sameList}
+use Rattle.blocks.specs.Block.{checkOf, checked, allZero, numberAt, numbersOf, sameList}
 use Rattle.blocks.proofs.Numbers.{number-drop, numbers-length, numbers-at}
 
--- ---- the check: the sum over the bytes from `from` up to i
-pub record Summed (b : List ℕ) (from to i sum : ℕ) : Type 0 where
-  pub left : i ≤ to
-  pub total : sumTo from b + sum ≡ sumTo i b
-  pub small : sum ≤ 130050 * i
-
-pub summed-start : (b : List ℕ) (from to : ℕ) → from ≤ to → Summed b from to from 0
-summed-start b from to h = record { left = h; total = add-zero (sumTo from b); small = omega arith }
-
--- one term of the sum
-pub term-small : (i x : ℕ) → i < 510 → x < 256 → (i + 1) * x ≤ 130050
-term-small i x h k = mul-le-mul {n₁ = i + 1} {m₁ = x} {n₂ = 510} {m₂ = 255} (omega arith) (omega arith)
-
-pub sum-more : (i : ℕ) (b : List ℕ) → sumTo (i + 1) b ≡ sumTo i b + (i + 1) * getD b i 0
-unfolding sumTo
-sum-more i b = rw add-one
-
-module _ (b : List ℕ) (from to i sum : ℕ) (v : Summed b from to i sum) (few : to ≤ 510) where
-  pub summed-on : (x : ℕ) → i < to → x ≡ getD b i 0 → x < 256 → Summed b from to (i + 1) (sum + (i + 1) * x)
-  summed-on x h e k =
-      let t : (i + 1) * x ≤ 130050 = term-small i x (omega arith) k in
-      let s : sumTo from b + sum ≡ sumTo i b = v .total in
-      let m : sum ≤ 130050 * i = v .small in
-      record { left = omega arith; total = rw (sum-more, ← e) (omega arith); small = omega arith }
-
-  pub summed-done : to ≤ i → sumTo from b + sum ≡ sumTo to b
-  summed-done h =
-      let e : i ≡ to = omega (arith, v .left) in
-      v .total ∙ ap (λ (j : ℕ). sumTo j b) e
-
-  pub summed-small : sum ≤ 130050 * to
-  summed-small = omega (arith, v .left, v .small)
-
--- the whole sum, and 1
-pub check-sum : (b : List ℕ) (s : ℕ) → sumTo 0 b + s ≡ 1 + sumTo 510 b → s % 65521 ≡ checkOf b
-unfolding checkOf sumTo
-check-sum b s e = ap (λ (t : ℕ). t % 65521) (sym (zero-add s) ∙ e)
-
+-- ---- the check beside the one that a block holds
 pub checked-is : (b : List ℕ) (c low high : ℕ) → c ≡ checkOf b → low ≡ getD b 510 0 → high ≡ getD b 511 0 → eqb c (low + 256 * high) ≡ checked b
 unfolding checked
 checked-is b c low high e l h = rw (e, l, h)
@@ -68,7 +30,7 @@ pub zeros-start : (b : List ℕ) (from to : ℕ) → from ≤ to → Zeros b fro
 zeros-start b from to h = record { left = h; rest = refl }
 
 -- no bit is set in either of two numbers
-or-zero : (x y : ℕ) → eqb (bitOr x y) 0 ≡ (eqb x 0 && eqb y 0)
+pub or-zero : (x y : ℕ) → eqb (bitOr x y) 0 ≡ (eqb x 0 && eqb y 0)
 or-zero x y =
     same-test (eqb (bitOr x y) 0) (eqb x 0 && eqb y 0)
     (λ h. let e : bitOr x y ≡ 0 = eqb-true (bitOr x y) 0 h in

@@ -2,11 +2,12 @@
 ghost use mathlib.Core.Path.{_≡_};
 ghost use mathlib.Core.Option.{none, some};
 ghost use Prim.Native.Nat.{ℕ, _+_, _*_, _≤_, _<_};
-ghost use lib.ListN.{length, getD, take, drop, replicate};
+ghost use lib.ListN.{length, getD, set, take, drop, replicate};
 ghost use lib.Seq.{slice, sets};
 ghost use Rattle.calendar.specs.Window.{WindowOf};
 ghost use Rattle.codes.specs.Places.{capacity, ascends};
-ghost use Rattle.blocks.specs.Block.{sumTo, checkOf, sealed, checked, bytes32, numberAt, numbersOf, flat, blockOf, putBlock, allZero, sameList, bookLength, blockCount, blockLength};
+ghost use Rattle.blocks.specs.Block.{checkOf, sealed, checked, bytes32, numberAt, numbersOf, flat, blockOf, putBlock, allZero, sameList, bookLength, blockCount, blockLength};
+ghost use Rattle.blocks.specs.Columns.{cell, columnSum, columnRows, weighed, ColumnsIn};
 ghost use Rattle.blocks.specs.Content.{contentOf, holding};
 ghost use Rattle.blocks.specs.Good.{isUsed, isUnused};
 ghost use Rattle.blocks.specs.Held.{heldContent, Fits};
@@ -24,41 +25,90 @@ fn wide(x: u8) -> u32
     x as u32
 }
 
+fn short(x: u8) -> u16
+    ensures { λ r. ⌜ (r ≡ x) × (r < 256) ⌝ }
+{
+    x as u16
+}
+
+fn wide16(x: u16) -> u32
+    ensures { λ r. ⌜ (r ≡ x) × (r < 65536) ⌝ }
+{
+    x as u32
+}
+
 pub fn size(x: u8) -> usize
     ensures { λ r. ⌜ (r ≡ x) × (r < 256) ⌝ }
 {
     x as usize
 }
 
-// The weighted sum of the bytes from `from` up to `to`. No term is above 510 * 255.
-fn weigh(b: &[u8], from: usize, to: usize) -> u32
-    requires { ⌜ (from ≤ to) × (to ≤ 510) × (length (now b) ≡ blockLength) ⌝ }
-    ensures { λ r. ⌜ (sumTo from (now (b .entry)) + r ≡ sumTo to (now (b .entry))) × (r ≤ 130050 * to) ⌝ }
+// The byte in a row and a column of a block, which is eight rows of 64 bytes.
+fn cell_at(b: &[u8], row: usize, j: usize) -> u16
+    requires { ⌜ (length (now b) ≡ blockLength) × (row < 8) × (j < 64) ⌝ }
+    ensures { λ r. ⌜ (r ≡ cell (now (b .entry)) row j) × (r < 256) ⌝ }
+{
+    short(b[64 * row + j])
+}
+
+// Adds up column j: its bytes, and its bytes each times the number of its row. That is r1 + .. + r7, since r1 is what stands from row 1 on, and so forth.
+fn add_column(b: &[u8], j: usize, sums: &mut [u16], rows: &mut [u16])
+    requires { ⌜ (length (now b) ≡ blockLength) × (j < 64) × (length (now sums) ≡ 64) × (length (now rows) ≡ 64) ⌝ }
+    ensures sum { λ _. ⌜ now (sums .exit) ≡ set (now (sums .entry)) j (columnSum (now (b .entry)) j) ⌝ }
+    ensures row { λ _. ⌜ now (rows .exit) ≡ set (now (rows .entry)) j (columnRows (now (b .entry)) j) ⌝ }
+{
+    let r7 = cell_at(b, 7, j);
+    let r6 = r7 + cell_at(b, 6, j);
+    let r5 = r6 + cell_at(b, 5, j);
+    let r4 = r5 + cell_at(b, 4, j);
+    let r3 = r4 + cell_at(b, 3, j);
+    let r2 = r3 + cell_at(b, 2, j);
+    let r1 = r2 + cell_at(b, 1, j);
+    let r0 = r1 + cell_at(b, 0, j);
+    sums[j] = r0;
+    rows[j] = r1 + r2 + r3 + r4 + r5 + r6 + r7;
+}
+
+// Adds up all columns. No sum is above 7,140: in 16 bits, the loop takes eight columns at a time, with additions alone.
+fn add_columns(b: &[u8], sums: &mut [u16], rows: &mut [u16])
+    requires { ⌜ (length (now b) ≡ blockLength) × (length (now sums) ≡ 64) × (length (now rows) ≡ 64) ⌝ }
+    ensures { λ _. ⌜ ColumnsIn (now (b .entry)) 64 (now (sums .exit)) (now (rows .exit)) ⌝ }
+{
+    let mut j: usize = 0;
+    while j < 64 {
+        add_column(b, j, sums, rows);
+        j += 1;
+    }
+}
+
+// The weighted sum of a block, of its columns: the byte in row c and column j counts 64 * c + j + 1 times.
+fn weigh_columns(sums: &[u16], rows: &[u16]) -> u32
+    requires { ⌜ (length (now sums) ≡ 64) × (length (now rows) ≡ 64) ⌝ }
+    ensures { λ r. ⌜ (r ≡ weighed 64 (now (sums .entry)) (now (rows .entry))) × (r ≤ 536862720) ⌝ }
 {
     let mut sum: u32 = 0;
-    let mut i = from;
-    while i < to {
-        let x = wide(b[i]);
-        sum += (i as u32 + 1) * x;
-        i += 1;
+    let mut j: usize = 0;
+    while j < 64 {
+        let x = wide16(sums[j]);
+        let y = wide16(rows[j]);
+        sum += (j as u32 + 1) * x + 64 * y;
+        j += 1;
     }
     sum
 }
 
-// The check of a block: 1 and the weighted sum of its first 510 bytes, modulo 65,521. The sum is made of parts whose bounds are constants, so that each loop takes many bytes at a time.
+// The check of a block: 1 and the weighted sum of its first 510 bytes, modulo 65,521. The columns hold all 512 bytes: the check's own two are taken out again.
 fn check(b: &[u8]) -> u32
     requires { ⌜ length (now b) ≡ blockLength ⌝ }
     ensures { λ r. ⌜ r ≡ checkOf (now (b .entry)) ⌝ }
 {
-    let s0 = weigh(b, 0, 64);
-    let s1 = weigh(b, 64, 128);
-    let s2 = weigh(b, 128, 192);
-    let s3 = weigh(b, 192, 256);
-    let s4 = weigh(b, 256, 320);
-    let s5 = weigh(b, 320, 384);
-    let s6 = weigh(b, 384, 448);
-    let s7 = weigh(b, 448, 510);
-    (1 + s0 + s1 + s2 + s3 + s4 + s5 + s6 + s7) % 65521
+    let mut sums: [u16; 64] = [0; 64];
+    let mut rows: [u16; 64] = [0; 64];
+    add_columns(b, &mut sums, &mut rows);
+    let sum = weigh_columns(&sums, &rows);
+    let low = wide(b[510]);
+    let high = wide(b[511]);
+    (1 + sum - 511 * low - 512 * high) % 65521
 }
 
 pub fn is_checked(b: &[u8]) -> bool
@@ -136,14 +186,36 @@ pub fn is_used(b: &[u8], w: calendar::Window) -> bool
     checks & gap & tail & rest & places & purge
 }
 
-// Whether a block is an unused one: zeros and their check, which is 1. Both loops are made of whole vectors; two bytes are looked at twice.
+// Whether the first 510 bytes of a block are zero. Each turn joins one byte of each of eight rows, so that the loop is short and made of whole vectors.
+// The last row begins at byte 446 and ends with byte 509: two bytes are looked at twice.
+fn is_blank(b: &[u8]) -> bool
+    requires { ⌜ length (now b) ≡ blockLength ⌝ }
+    ensures { λ r. ⌜ r ≡ allZero (slice 0 510 (now (b .entry))) ⌝ }
+{
+    let mut some: u8 = 0;
+    let mut j: usize = 0;
+    while j < 64 {
+        some = some
+            | b[j]
+            | b[64 + j]
+            | b[128 + j]
+            | b[192 + j]
+            | b[256 + j]
+            | b[320 + j]
+            | b[384 + j]
+            | b[446 + j];
+        j += 1;
+    }
+    some == 0
+}
+
+// Whether a block is an unused one: zeros and their check, which is 1.
 pub fn is_unused(b: &[u8]) -> bool
     requires { ⌜ length (now b) ≡ blockLength ⌝ }
     ensures { λ r. ⌜ r ≡ isUnused (now (b .entry)) ⌝ }
 {
-    let front = all_zero(b, 0, 480);
-    let back = all_zero(b, 478, 510);
-    front & back & (b[510] == 1) & (b[511] == 0)
+    let blank = is_blank(b);
+    blank & (b[510] == 1) & (b[511] == 0)
 }
 
 // Stores the check.

@@ -1,6 +1,5 @@
+use Rattle.blocks.proofs.Columns.{low-in, high-in, check-columns}
 use borrow.Author.Needs.{needs}
-use native.Mathlib.Omega.{arith}
-use Rattle.blocks.proofs.Scans.{check-sum}
 use Rattle.blocks.proofs.check.Statement.{statement}
 use Rattle.blocks.proofs.check.Tie as tie
 
@@ -8,20 +7,19 @@ pub check-spec : {M : Type 1} → statement M
 check-spec =
     tie.close
     (tie.spec
-    (λ c κs. search needs)
-    (λ c κs. search needs)
-    (λ c κs. search needs)
-    (λ c κs. search needs)
-    (λ c κs. search needs)
-    (λ c κs. search needs)
-    (λ c κs. search needs)
+    (λ c. search needs)
+    (λ c. search needs)
     (λ c κs. search needs)
     (λ c. search needs)
     (λ c. search needs)
+    (λ c κs. search needs)
+    (λ c. search needs)
+    (λ c κs. search needs)
+    (λ c. search needs)
+    (λ c κs. search needs)
     (λ c. search needs)
     (λ c. search needs)
+    (λ c. search (low-in, needs))
     (λ c. search needs)
-    (λ c. search needs)
-    (λ c. search needs)
-    (λ c. search needs)
-    (λ c. check-sum _ _ (omega arith)))
+    (λ c. search (high-in, needs))
+    (λ c. search (check-columns, needs)))

@@ -1,5 +1,5 @@
+use Rattle.blocks.proofs.Unused.{unused-is}
 use borrow.Author.Needs.{needs}
-use Rattle.blocks.proofs.Unused.{unused-parts}
 use Rattle.blocks.proofs.is_unused.Statement.{statement}
 use Rattle.blocks.proofs.is_unused.Tie as tie
 
@@ -8,7 +8,6 @@ is-unused-spec =
     tie.close
     (tie.spec
     (λ c κs. search needs)
-    (λ c κs. search needs)
     (λ c. search needs)
     (λ c. search needs)
-    (λ c. search (unused-parts, needs)))
+    (λ c. search (unused-is, needs)))

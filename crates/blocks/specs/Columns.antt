@@ -1,0 +1,27 @@
+-- Serves the code: a block as eight rows of 64 bytes, and its weighted sum by columns.
+use Prim.Native.Nat.{ℕ, zero, suc, _+_, _*_, _<_}
+use mathlib.Core.Path.{_≡_}
+use mathlib.Core.List.{List}
+use lib.ListN.{getD}
+
+-- the byte in a row and a column
+abbrev pub cell : List ℕ → ℕ → ℕ → ℕ
+cell b row j = getD b (64 * row + j) 0
+
+-- the sum of the bytes of column j
+unfoldable pub columnSum : List ℕ → ℕ → ℕ
+columnSum b j = cell b 0 j + cell b 1 j + cell b 2 j + cell b 3 j + cell b 4 j + cell b 5 j + cell b 6 j + cell b 7 j
+
+-- the sum of each byte of column j times the number of its row
+unfoldable pub columnRows : List ℕ → ℕ → ℕ
+columnRows b j = cell b 1 j + 2 * cell b 2 j + 3 * cell b 3 j + 4 * cell b 4 j + 5 * cell b 5 j + 6 * cell b 6 j + 7 * cell b 7 j
+
+-- two lists hold these sums of the first k columns
+pub record ColumnsIn (b : List ℕ) (k : ℕ) (sums rows : List ℕ) : Type 0 where
+  pub sum : (j : ℕ) → j < k → getD sums j 0 ≡ columnSum b j
+  pub row : (j : ℕ) → j < k → getD rows j 0 ≡ columnRows b j
+
+-- the weighted sum of k columns: the byte in row c and column j counts 64 * c + j + 1 times
+unfoldable pub weighed : ℕ → List ℕ → List ℕ → ℕ
+weighed zero sums rows = 0
+weighed (suc j) sums rows = weighed j sums rows + (suc j * getD sums j 0 + 64 * getD rows j 0)
