@@ -1,21 +1,21 @@
 -- Printable bytes at the front of a text, and what holds behind them. Assumes nothing.
-use Prim.Native.Nat.{ℕ, zero, suc, _+_, _-_, _^_, _≤_, _<_, suc-le-suc}
+use Prim.Native.Nat.{ℕ, zero, suc, _+_, _-_, _^_, min, _≤_, _<_, suc-le-suc}
 use native.Mathlib.Numerals.{add-one}
 use native.Mathlib.Omega.{arith}
 use mathlib.Core.Path.{_≡_, refl, sym, ap, _∙_}
 use mathlib.Core.List.{List, [], _∷_}
-use mathlib.Core.Bool.{Bool, true, false, cond, _&&_}
+use mathlib.Core.Bool.{Bool, true, false, cond}
 use mathlib.Core.Option.{none, some}
 use mir.Syntax.{w64}
 use mir.Val.{Fits}
-use lib.ListN.{length, getD, drop, length-drop}
+use lib.ListN.{length, getD, drop, length-drop, List·getD-eq-default}
 use lib.Seq.{drop-cons, drop-drop}
 use lib.Dec.{leb}
-use borrow.Author.Tests.{leb-true, leb-false, le-leb, lt-leb}
-use Rattle.laws.proofs.Tests.{by, by-order, impossible, and-left}
+use borrow.Author.Tests.{leb-true}
+use Rattle.laws.proofs.Tests.{by, by-order, either-way, impossible, apart, and-left}
 use Rattle.lines.specs.Bytes.{between}
 use Rattle.lines.specs.Spans.{spanAt, paperLined, endingOf, paperEnding}
-use Rattle.lines.specs.Printables.{printables, Skipped}
+use Rattle.lines.specs.Printables.{printables, Passed}
 use Rattle.lines.specs.declared.Lined.{Lined}
 use Rattle.lines.specs.declared.Lined.the-variants as lined
 use Rattle.lines.specs.declared.Ending.{Ending}
@@ -48,72 +48,72 @@ module _ (s : List ℕ) (i : ℕ) where
   passed : (k : ℕ) → k ≤ printables (drop i s) → printables (drop i s) ≡ k + printables (drop (i + k) s)
   passed k h = rw (← drop-drop k i s) (behind k (drop i s) h)
 
--- ---- whether w bytes are printable: k of them are seen
-pub record Seen (s : List ℕ) (i w : ℕ) (all : Bool) (k : ℕ) : Type 0 where
+-- ---- how many of w bytes are printable before one is not: k of them are looked at
+pub record Looked (s : List ℕ) (i w first k : ℕ) : Type 0 where
   pub low : k ≤ w
-  pub is : all ≡ leb k (printables (drop i s))
+  pub found : printables (drop i s) < k → first ≡ printables (drop i s)
+  pub none-yet : k ≤ printables (drop i s) → first ≡ w
 
-pub seen-start : (s : List ℕ) (i w : ℕ) → Seen s i w true 0
-seen-start s i w = record { low = omega arith; is = sym (le-leb 0 (printables (drop i s)) (omega arith)) }
+pub looked-start : (s : List ℕ) (i w : ℕ) → Looked s i w w 0
+looked-start s i w = record { low = omega arith; found = λ h. impossible (omega arith); none-yet = λ h. refl }
 
-module _ (s : List ℕ) (i w : ℕ) (all : Bool) (k : ℕ) (v : Seen s i w all k) where
-  -- one more is printable if all before it are and it is
-  more : i + k < length s → leb (k + 1) (printables (drop i s)) ≡ (leb k (printables (drop i s)) && between 32 126 (getD s (i + k) 0))
-  more h =
-      by-order (printables (drop i s)) k
-      (λ l. rw (lt-leb k (printables (drop i s)) l, lt-leb (k + 1) (printables (drop i s)) (omega arith)))
-      λ l. let e : printables (drop i s) ≡ k + printables (drop (i + k) s) = passed s i k l in
-      by (between 32 126 (getD s (i + k) 0))
-      (λ p. rw (le-leb k (printables (drop i s)) l, p, le-leb (k + 1) (printables (drop i s)) (omega (arith, rw p at (at-byte s (i + k) h)))))
-      λ p. rw (le-leb k (printables (drop i s)) l, p, lt-leb (k + 1) (printables (drop i s)) (omega (arith, rw p at (at-byte s (i + k) h))))
+module _ (s : List ℕ) (i w first k : ℕ) (v : Looked s i w first k) where
+  module _ (l : k < w) (h : i + w ≤ length s) (t : Bool) (e : t ≡ between 32 126 (getD s (i + k) 0)) where
+    -- once one is not printable, no later byte counts
+    on-after : printables (drop i s) < k → Looked s i w (min first (cond t w k)) (k + 1)
+    on-after p =
+        let f : first ≡ printables (drop i s) = v .found p in
+        let c : k ≤ cond t w k = either-way (λ (x : ℕ). k ≤ x) t (omega arith) (omega arith) in
+        record { low = omega arith; found = λ q. omega arith; none-yet = λ q. impossible (omega arith) }
 
-  pub seen-on : k < w → i + w ≤ length s → (t : Bool) → t ≡ between 32 126 (getD s (i + k) 0) → Seen s i w (all && t) (k + 1)
-  seen-on l h t e = record { low = omega arith; is = rw (more (omega arith), e, v .is) }
+    -- all before it are printable
+    on-here : k ≤ printables (drop i s) → Looked s i w (min first (cond t w k)) (k + 1)
+    on-here p =
+        let f : first ≡ w = v .none-yet p in
+        let on : printables (drop i s) ≡ k + printables (drop (i + k) s) = passed s i k p in
+        by t
+        (λ y. let b : printables (drop (i + k) s) ≡ suc (printables (drop (i + k + 1) s)) = rw (sym e ∙ y) at (at-byte s (i + k) (omega arith)) in
+        rw y (record { low = omega arith; found = λ q. impossible (omega arith); none-yet = λ q. omega arith }))
+        λ n. let b : printables (drop (i + k) s) ≡ 0 = rw (sym e ∙ n) at (at-byte s (i + k) (omega arith)) in
+        rw n (record { low = omega arith; found = λ q. omega arith; none-yet = λ q. impossible (omega arith) })
 
-  pub seen-done : w ≤ k → all ≡ leb w (printables (drop i s))
-  seen-done h = let e : k ≡ w = omega (arith, v .low) in rw (← e) (v .is)
+    pub looked-on : (x : ℕ) → x ≡ cond t w k → (r : ℕ) → r ≡ min first x → Looked s i w r (k + 1)
+    looked-on x d r q = rw (q, d) (by-order (printables (drop i s)) k on-after on-here)
 
--- ---- the printable bytes from i on end where those from `at` on do
-pub record Skips (s : List ℕ) (at i : ℕ) : Type 0 where
-  pub within : i ≤ length s
-  pub same : i + printables (drop i s) ≡ at + printables (drop at s)
+  pub looked-done : w ≤ k → first ≡ min w (printables (drop i s))
+  looked-done h =
+      by-order (printables (drop i s)) w (λ p. omega (arith, v .found (omega arith))) (λ p. omega (arith, v .none-yet (omega (arith, v .low))))
 
-pub skips-start : (s : List ℕ) (at : ℕ) → at ≤ length s → Skips s at at
-skips-start s at h = record { within = h; same = refl }
+-- ---- a move over printable bytes, from `at` on up to i
+pub passed-start : (s : List ℕ) (at : ℕ) → at ≤ length s → Passed s at at
+passed-start s at h = record { within = h; same = refl }
 
-module _ (s : List ℕ) (at i : ℕ) (v : Skips s at i) (w : ℕ) where
-  skipped : printables (drop i s) < w → Skipped s at w i
-  skipped h = record { within = v .within; same = v .same; few = h }
+module _ (s : List ℕ) (at i : ℕ) (v : Passed s at i) where
+  passed-more : (k : ℕ) → k ≤ printables (drop i s) → Passed s at (i + k)
+  passed-more k h = record { within = omega (arith, v .within, rest s i); same = omega (arith, v .same, passed s i k h) }
 
-  -- fewer than w bytes are left
-  pub skips-short : length s < i + w → Skipped s at w i
-  skips-short h = skipped (omega (arith, rest s i))
+  -- of the next w bytes k are printable before one is not
+  module _ (w k : ℕ) (e : k ≡ min w (printables (drop i s))) where
+    pub passed-to : k < w → Passed s at (i + k)
+    passed-to l = passed-more k (omega (arith, e))
 
-  module _ (t : Bool) (e : t ≡ leb w (printables (drop i s))) where
-    -- the next w are printable
-    pub skips-on : t ≡ true → Skips s at (i + w)
-    skips-on y =
-        let h : w ≤ printables (drop i s) = leb-true w (printables (drop i s)) (sym e ∙ y) in
-        record { within = omega (arith, v .within, rest s i); same = omega (arith, v .same, passed s i w h) }
+    pub passed-all : w ≤ k → Passed s at (i + w)
+    passed-all l = passed-more w (omega (arith, e))
 
-    -- one of the next w is not printable
-    pub skips-no : t ≡ false → Skipped s at w i
-    skips-no n = skipped (leb-false w (printables (drop i s)) (sym e ∙ n))
+  -- the next byte, where there is one, is printable or not
+  module _ (t : Bool) (e : t ≡ between 32 126 (getD s i 0)) where
+    pub passed-one : t ≡ true → Passed s at (i + 1)
+    passed-one y =
+        by-order i (length s)
+        (λ h. passed-more 1 (omega (arith, rw (sym e ∙ y) at (at-byte s i h))))
+        λ h. let z : false ≡ true = rw (List·getD-eq-default s 0 h) at (sym e ∙ y) in apart cc
 
--- ---- one move by w, where fewer than twice as many bytes are printable
-module _ (s : List ℕ) (i w : ℕ) (within : i ≤ length s) (few : printables (drop i s) < w + w) where
-  pub hops-short : length s < i + w → Skipped s i w i
-  hops-short h = skips-short s i i (skips-start s i within) w h
+    pub passed-stop : t ≡ false → i ≡ at + printables (drop at s)
+    passed-stop n =
+        by-order i (length s) (λ h. omega (arith, v .same, rw (sym e ∙ n) at (at-byte s i h))) (λ h. omega (arith, v .same, rest s i))
 
-  module _ (t : Bool) (e : t ≡ leb w (printables (drop i s))) where
-    pub hops-on : t ≡ true → Skipped s i w (i + w)
-    hops-on y =
-        let h : w ≤ printables (drop i s) = leb-true w (printables (drop i s)) (sym e ∙ y) in
-        let v : Skips s i (i + w) = skips-on s i i (skips-start s i within) w t e y in
-        record { within = v .within; same = v .same; few = omega (arith, passed s i w h) }
-
-    pub hops-no : t ≡ false → Skipped s i w i
-    hops-no n = skips-no s i i (skips-start s i within) w t e n
+  pub passed-end : length s ≤ i → i ≡ at + printables (drop at s)
+  passed-end h = omega (arith, v .same, rest s i)
 
 -- ---- behind the printable bytes: what holds before them, and goes on over each
 pub over : (s : List ℕ) (P : ℕ → Type 0) → ((j : ℕ) → j < length s → between 32 126 (getD s j 0) ≡ true → P j → P (j + 1))

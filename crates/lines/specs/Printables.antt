@@ -1,5 +1,5 @@
 -- What the code passes over in one go: a notion of the scan over a text, and none of document 01.
-use Prim.Native.Nat.{ℕ, suc, _+_, _≤_, _<_}
+use Prim.Native.Nat.{ℕ, suc, _+_, _≤_}
 use mathlib.Core.Path.{_≡_}
 use mathlib.Core.List.{List, [], _∷_}
 use mathlib.Core.Bool.{cond}
@@ -11,8 +11,7 @@ unfoldable pub printables : List ℕ → ℕ
 printables [] = 0
 printables (b ∷ s) = cond (between 32 126 b) (suc (printables s)) 0
 
--- the printable bytes from r on end where those from `at` on do, and fewer than w are left
-pub record Skipped (text : List ℕ) (at w r : ℕ) : Type 0 where
+-- the printable bytes from r on end where those from `at` on do
+pub record Passed (text : List ℕ) (at r : ℕ) : Type 0 where
   pub within : r ≤ length text
   pub same : r + printables (drop r text) ≡ at + printables (drop at text)
-  pub few : printables (drop r text) < w

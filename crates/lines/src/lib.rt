@@ -1,15 +1,15 @@
 // The lines of a text, by places: document 01, "Text and lines".
 ghost use mathlib.Core.Path.{_≡_};
-ghost use Prim.Native.Nat.{_+_, _-_, _≤_, _<_};
+ghost use Prim.Native.Nat.{_+_, _-_, min, _≤_, _<_};
 ghost use lib.ListN.{length, getD, drop};
-ghost use lib.Dec.{leb};
+ghost use mathlib.Core.Bool.{cond};
 ghost use Rattle.refusal.specs.Numbers.{wrongText};
 ghost use Rattle.refusal.specs.Answer.{refusalFor, paperVerdict};
 ghost use Rattle.lines.specs.Bytes.{between, capital, digit, literally, begins};
 ghost use Rattle.lines.specs.Lines.{blank, isEnd, opens};
 ghost use Rattle.lines.specs.Check.{checkText};
 ghost use Rattle.lines.specs.Spans.{spanAt, paperLined, part, endingOf, paperEnding};
-ghost use Rattle.lines.specs.Printables.{printables, Skipped};
+ghost use Rattle.lines.specs.Printables.{printables, Passed};
 use refusal::Refusal;
 use refusal::Verdict;
 
@@ -100,52 +100,50 @@ pub fn find_ending(text: &[u8], i: usize) -> Ending
     Ending::Nothing
 }
 
-// Whether the w bytes from i on are printable. None of them ends the loop, so that all of them are looked at together.
-fn all_printable(text: &[u8], i: usize, w: usize) -> bool
-    requires { ⌜ i + w ≤ length (now text) ⌝ }
-    ensures { λ r. ⌜ r ≡ leb w (printables (drop i (now (text .entry)))) ⌝ }
+fn lesser(a: u8, b: u8) -> u8
+    ensures { λ r. ⌜ r ≡ min a b ⌝ }
 {
-    let mut all = true;
-    let mut k: usize = 0;
-    while k < w {
-        all = all & printable(text[i + k]);
-        k += 1;
-    }
-    all
+    if b < a { b } else { a }
 }
 
-// Moves on from `at` by w while w whole bytes from here on are printable.
-fn skip(text: &[u8], at: usize, w: usize) -> usize
-    requires within { ⌜ at ≤ length (now text) ⌝ }
-    requires wide { ⌜ (1 ≤ w) × (w ≤ 16) ⌝ }
-    ensures { λ r. ⌜ Skipped (now (text .entry)) at w r ⌝ }
+// Where the byte at k of sixty-four ends the printable ones: at k, or behind all of them if it is printable itself.
+fn ends_at(k: u8, good: bool) -> u8
+    ensures { λ r. ⌜ r ≡ cond good 64 k ⌝ }
+{
+    if good { 64 } else { k }
+}
+
+// How many of the sixty-four bytes from i on are printable before one is not. None of them ends the loop, so that they are looked at together,
+// a vector at a time. The compiler unrolls a loop over sixteen or thirty-two, and makes a chain of tests of it.
+fn leading_printables(text: &[u8], i: usize) -> u8
+    requires { ⌜ i + 64 ≤ length (now text) ⌝ }
+    ensures { λ r. ⌜ r ≡ min 64 (printables (drop i (now (text .entry)))) ⌝ }
+{
+    let mut first: u8 = 64;
+    let mut k: u8 = 0;
+    while k < 64 {
+        let good = printable(text[i + k as usize]);
+        first = lesser(first, ends_at(k, good));
+        k += 1;
+    }
+    first
+}
+
+// Moves on from `at` over printable bytes, sixty-four at a time: up to one that is not, or to where fewer are left of the text.
+fn stride(text: &[u8], at: usize) -> usize
+    requires { ⌜ at ≤ length (now text) ⌝ }
+    ensures { λ r. ⌜ Passed (now (text .entry)) at r ⌝ }
 {
     let n = text.len();
     let mut i = at;
-    while i + w <= n {
-        if all_printable(text, i, w) {
-            i += w;
-        } else {
-            return i;
+    while i + 64 <= n {
+        let k = leading_printables(text, i);
+        if k < 64 {
+            return i + k as usize;
         }
+        i += 64;
     }
     i
-}
-
-// Moves on from `at` by w if w whole bytes from here on are printable, where fewer than twice as many are.
-fn hop(text: &[u8], at: usize, w: usize) -> usize
-    requires within { ⌜ at ≤ length (now text) ⌝ }
-    requires wide { ⌜ (1 ≤ w) × (w ≤ 16) ⌝ }
-    requires few { ⌜ printables (drop at (now text)) < w + w ⌝ }
-    ensures { λ r. ⌜ Skipped (now (text .entry)) at w r ⌝ }
-{
-    if at + w <= text.len() {
-        let all = all_printable(text, at, w);
-        if all {
-            return at + w;
-        }
-    }
-    at
 }
 
 // The first place from `at` on whose byte is not printable, or the text's end.
@@ -154,11 +152,18 @@ fn printable_end(text: &[u8], at: usize) -> usize
     ensures is { λ r. ⌜ r ≡ at + printables (drop at (now (text .entry))) ⌝ }
     ensures most { λ r. ⌜ r ≤ length (now (text .entry)) ⌝ }
 {
-    let a = skip(text, at, 16);
-    let b = hop(text, a, 8);
-    let c = hop(text, b, 4);
-    let d = hop(text, c, 2);
-    hop(text, d, 1)
+    let n = text.len();
+    let mut i = stride(text, at);
+    // At most the text's last sixty-three bytes are left to look at, one by one, and else a byte that is not printable.
+    while i < n {
+        let good = printable(text[i]);
+        if good {
+            i += 1;
+        } else {
+            return i;
+        }
+    }
+    i
 }
 
 fn line(start: usize, end: usize, next: usize) -> Lined
