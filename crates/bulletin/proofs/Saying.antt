@@ -19,7 +19,7 @@ use Rattle.refusal.specs.declared.Refusal.{Refusal}
 use Rattle.lines.specs.Lines.{Line, linesOf, isEnd, opens}
 use Rattle.calendar.specs.Purge.{purgeOf}
 use Rattle.codes.specs.Places.{capacity}
-use Rattle.codes.specs.Block.{Content, Read, block, wrongAt, readBlock, dated, contentIn, contentAt}
+use Rattle.codes.specs.Block.{Content, Read, block, wrongAt, readBlock, twiceAt, dated, contentIn, contentAt}
 use Rattle.reading.specs.Placed.{Placed, placedAt}
 use Rattle.reading.proofs.Placing.{placed-parts}
 use Rattle.bulletin.specs.Search.{fromFirst}
@@ -126,13 +126,14 @@ dated-few start at ps (some t) c e =
     subst (λ (k : Content). length (k .places) ≤ capacity) p (leb-true (length ps) capacity y))
     (λ y. let w : refused tooManyPlaces start ≡ ok c = rw y at e in apart cc)
 
-in-few : (issue start : ℕ) (r : Read) (c : Content) → contentIn issue start r ≡ ok c → length (c .places) ≤ capacity
-in-few issue start (block ps s at) c e = dated-few start at ps (purgeOf issue s) c e
-in-few issue start (wrongAt place) c e = apart cc
+in-few : (issue start : ℕ) (w : Option ℕ) (r : Read) (c : Content) → contentIn issue start w r ≡ ok c → length (c .places) ≤ capacity
+in-few issue start none (block ps s at) c e = dated-few start at ps (purgeOf issue s) c e
+in-few issue start (some y) (block ps s at) c e = apart cc
+in-few issue start w (wrongAt place) c e = apart cc
 
 pub content-few : (text : List ℕ) (issue start : ℕ) (c : Content) → contentAt text issue start ≡ ok c → length (c .places) ≤ capacity
 unfolding contentAt
-content-few text issue start c e = in-few issue start (readBlock text start) c e
+content-few text issue start c e = in-few issue start (twiceAt text start) (readBlock text start) c e
 
 -- ---- what the reader's answer says of the bulletin
 pub record Told (text : List ℕ) (year month : ℕ) (h : Head) (gs : List declared.Segment) : Type 0 where

@@ -50,7 +50,7 @@ pub record Bulletin : Type 0 where
   pub storm : Option StormName
   pub segments : List Segment
 
--- "Order, reading: 1, 5 (year, month), 2, 3, 4, 5 (issue), 10, then 6 at the start of a line 3 that opens nothing, or 7 (also without a line 3); then segment by segment 9, 6, 5, 11, 8."
+-- "Order, reading: 1, 5 (year, month), 2, 3, 4, 5 (issue), 10, then 6 at the start of a line 3 that opens nothing, or 7 (also without a line 3); then segment by segment 9, 6, 25, 5, 11, 8."
 unfoldable pub readBulletin : List ℕ → ℕ → ℕ → Answer Bulletin
 readBulletin text year month =
     andThen (must (isLength text) wrongLength 0) λ _.

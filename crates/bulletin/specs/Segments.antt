@@ -29,7 +29,7 @@ abbrev pub runsTo : (start block : ℕ) → Content → (List Line → Answer (L
 runsTo start block c next [] = refused noEnd start
 runsTo start block c next (e ∷ ls) = andThen (next ls) (λ ss. ok (record { start = start; block = block; past = e .next; content = c } ∷ ss))
 
--- in each segment 6, 5 and 11, then 8
+-- in each segment 6, 25, 5 and 11, then 8
 abbrev pub opened : List ℕ → ℕ → (List Line → Answer (List Segment)) → List Line → Answer (List Segment)
 opened text issue next [] = ok []
 opened text issue next (l ∷ ls) =

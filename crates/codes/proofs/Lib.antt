@@ -1,5 +1,7 @@
 pub mod Forms
+pub mod ByPlace
 pub mod Steps
+pub mod Twice
 pub mod Members
 pub mod Sets
 pub mod Climbs

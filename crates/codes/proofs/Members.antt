@@ -166,7 +166,7 @@ run-split n p (cons {p = x} {ps = xs} g f a) =
     by (ltb x p) (λ k. let h = ltb-true x p k in let m : x < p + n = omega arith in run-after n xs h ∙ rw (k, from-less xs m) (ap (λ (t : List ℕ). x ∷ t) (run-split n p a)))
     λ k. rw k (run-low n p (cons (ltb-false x p k) f a))
 
-first-none : {p i : ℕ} {x : ℕ} {xs : List ℕ} → First p (x ∷ xs) (suc i) → First p xs i
+pub first-none : {p i : ℕ} {x : ℕ} {xs : List ℕ} → First p (x ∷ xs) (suc i) → First p xs i
 first-none f = record { within = omega (arith, f .within); low = λ j h. f .low (suc j) (omega arith); high = λ h. f .high (omega arith) }
 
 pub below-take : (p : ℕ) (l : List ℕ) (i : ℕ) → First p l i → below p l ≡ take i l

@@ -3,30 +3,29 @@ use Prim.Native.Nat.{ℕ, zero, suc, _+_, _-_, _≤_, _<_}
 use native.Mathlib.Omega.{arith}
 use mathlib.Core.Path.{_≡_, refl, sym, ap, _∙_}
 use mathlib.Core.List.{List, [], _∷_, _++_, append-assoc, append-nil}
-use mathlib.Core.Bool.{Bool, true, false}
+use mathlib.Core.Bool.{Bool, true, false, _&&_}
 use mathlib.Core.Option.{Option, none, some}
-use lib.ListN.{length, getD, take, drop, length-drop, drop-of-length-le}
+use lib.ListN.{length, getD, drop, length-drop, drop-of-length-le}
 use lib.Seq.{drop-at, take-suc, getD-drop, length-take-le}
 use lib.Dec.{eqb, leb}
 use borrow.Author.Tests.{eq-eqb, ne-eqb, le-leb, lt-leb, eqb-true, eqb-false}
-use Rattle.laws.proofs.Tests.{by, by-order, apart}
-use Rattle.lines.specs.Bytes.{lf, begins, exactly}
-use Rattle.lines.specs.Lines.{pieces, bodyOf}
+use Rattle.laws.proofs.Tests.{by, by-order, apart, either-way}
+use Rattle.lines.specs.Bytes.{lf, word, begins, exactly}
+use Rattle.lines.specs.Lines.{pieces, bodyOf, prefixForm}
 use Rattle.lines.specs.Spans.{part, endingOf, paperEnding, ends}
 use Rattle.lines.specs.declared.Ending.{Ending}
 use Rattle.lines.specs.declared.Ending.the-variants as ending
 use Rattle.lines.proofs.Ends.{no-end, past-end, ending-length, ending-none, end-bytes, firstPiece, pieces-first, nextOf, next-last, next-here, next-within, next-on, lines-step, lines-last, InLine, in-start, in-on, body-at}
-use Rattle.calendar.specs.declared.Stamp.{Stamp}
-use Rattle.codes.specs.Elements.{numbers, short, said, Element, dash, null, elementsAt, elementsOfBody, elementsOfLines, elementsFrom}
+use Rattle.codes.specs.Places.{prefixOf, threeOf}
+use Rattle.codes.specs.Elements.{singleForm, rangeForm, purgeForm, isRange, numbers, short, said, Element, dash, null, elementsAt, elementsOfBody, elementsOfLines, elementsFrom}
 use Rattle.codes.specs.Elements as elements
 use Rattle.codes.specs.Block.{insertCovered, Read, block, wrongAt, ended, readFrom}
 use Rattle.codes.specs.Serving.{Low}
 use Rattle.codes.proofs.Bounds.{Below, covers-low}
 use Rattle.codes.proofs.Turns.{read-covers, read-purge, read-wrong}
-use Rattle.codes.specs.Cursor.{paperLast, paperSaid, nextPlace, purged, stepOver, afterEnd, pastEnd, lastOfLine, Runs, stepAt}
+use Rattle.codes.specs.Cursor.{paperLast, nextPlace, purged, stepOver, afterEnd, pastEnd, lastOfLine, stepAt, firstBytes, elementAt, coveredFor, coveredAt, Usual, saidOfPurge, wholeAt, purgeAt}
 use Rattle.codes.specs.declared.Last.the-variants.{Prefix}
-use Rattle.codes.specs.declared.Said.{Said}
-use Rattle.codes.specs.declared.Said.the-variants.{Covers, Purge}
+use Rattle.codes.specs.declared.Covered.{Covered}
 use Rattle.codes.specs.declared.Cursor.{Cursor}
 use Rattle.codes.specs.declared.Step.{Step}
 use Rattle.codes.specs.declared.Step.the-variants.{Wrong}
@@ -35,8 +34,15 @@ use Rattle.codes.specs.declared.Step.the-variants.{Wrong}
 abbrev pub bodyAt : List ℕ → ℕ → List ℕ
 bodyAt s i = bodyOf (firstPiece lf (drop i s))
 
-abbrev pub elementAt : List ℕ → ℕ → List ℕ
-elementAt s i = firstPiece dash (bodyAt s i)
+abbrev pub elementFrom : List ℕ → ℕ → List ℕ
+elementFrom s i = firstPiece dash (bodyAt s i)
+
+-- the element that starts at a place runs up to another
+pub record Runs (text : List ℕ) (at after : ℕ) : Type 0 where
+  pub low : at ≤ after
+  pub high : after ≤ length text
+  pub step : elementsFrom at (drop at text)
+      ≡ record { at = at; bytes = part text at after; last = lastOfLine text after } ∷ elementsFrom (pastEnd text after) (drop (pastEnd text after) text)
 
 pub elements-step : (s : List ℕ) (at : ℕ) → at < length s → elementsFrom at (drop at s) ≡ elementsOfBody at (bodyAt s at) ++ elementsFrom (nextOf s at) (drop (nextOf s at) s)
 unfolding elementsOfLines
@@ -112,7 +118,7 @@ part-more s at i l h =
     rw e (take-suc (drop at s) (i - at) 0 (omega (arith, length-drop at s)) ∙ rw (getD-drop, f))
 
 module _ (s : List ℕ) (at after : ℕ) (h : at < length s) (low : at ≤ after) (high : after ≤ length s) (goes : nextOf s at ≡ nextOf s after)
-    (body : bodyAt s at ≡ part s at after ++ bodyAt s after) (first : elementAt s at ≡ part s at after) where
+    (body : bodyAt s at ≡ part s at after ++ bodyAt s after) (first : elementFrom s at ≡ part s at after) where
   pub runs-at : Runs s at after
   runs-at =
       record {
@@ -124,19 +130,19 @@ module _ (s : List ℕ) (at after : ℕ) (h : at < length s) (low : at ≤ after
             ∙ rw (goes, behind s after .last, behind s after .rest);
       }
 
--- ---- the search for its end: i stands in the element that starts at `at`
+-- ---- where it ends: i stands in the element that starts at `at`
 pub record InElement (s : List ℕ) (at i : ℕ) : Type 0 where
   pub line : InLine s at i
   pub high : i ≤ length s
   pub body : bodyAt s at ≡ part s at i ++ bodyAt s i
-  pub first : elementAt s at ≡ part s at i ++ elementAt s i
+  pub first : elementFrom s at ≡ part s at i ++ elementFrom s i
 
-pub element-start : (s : List ℕ) (at : ℕ) → at < length s → InElement s at at
+element-start : (s : List ℕ) (at : ℕ) → at < length s → InElement s at at
 element-start s at h = let z : at - at ≡ 0 = omega arith in record { line = in-start s at; high = omega arith; body = rw z; first = rw z }
 
 module _ (s : List ℕ) (at i : ℕ) (a : at < length s) (v : InElement s at i) where
   -- the text's end
-  pub element-last : length s ≤ i → Runs s at i
+  element-last : length s ≤ i → Runs s at i
   unfolding firstPiece
   element-last h =
       runs-at s at i a (v .line .low) (v .high) (v .line .goes) (v .body) (v .first ∙ rw (body-last s i h) (append-nil (part s at i)))
@@ -162,30 +168,23 @@ module _ (s : List ℕ) (at i : ℕ) (a : at < length s) (v : InElement s at i) 
             high = omega arith;
             body = more-body;
             first =
-                v .first ∙ ap (λ (x : List ℕ). part s at i ++ x) (rw (body-on s i h e, ne-eqb (getD s i 0) 45 n)) ∙ sym (append-assoc (part s at i) (getD s i 0 ∷ []) (elementAt s (i + 1)))
-                ∙ ap (λ (x : List ℕ). x ++ elementAt s (i + 1)) (sym (part-more s at i (v .line .low) h));
+                v .first ∙ ap (λ (x : List ℕ). part s at i ++ x) (rw (body-on s i h e, ne-eqb (getD s i 0) 45 n)) ∙ sym (append-assoc (part s at i) (getD s i 0 ∷ []) (elementFrom s (i + 1)))
+                ∙ ap (λ (x : List ℕ). x ++ elementFrom s (i + 1)) (sym (part-more s at i (v .line .low) h));
           }
 
-    module _ (t : Bool) (et : t ≡ ends (endingOf (drop i s))) where
-      pub element-end : t ≡ true → Runs s at i
-      element-end y = by-end (endingOf (drop i s)) stops-here (λ q. let z : false ≡ true = rw q at (sym et ∙ y) in apart cc)
-
-      pub element-on : t ≡ false → (getD s i 0 ≡ 45 → ⊥) → InElement s at (i + 1)
-      element-on n = by-end (endingOf (drop i s)) (λ k q. let z : true ≡ false = rw q at (sym et ∙ n) in apart cc) goes-on
-
     -- its `-`
-    pub element-dash : getD s i 0 ≡ 45 → Runs s at (i + 1)
+    element-dash : getD s i 0 ≡ 45 → Runs s at (i + 1)
     unfolding firstPiece
     element-dash d =
         let z : endingOf (drop i s) ≡ none = sym (no-end s i (getD s i 0) refl (omega (arith, d))) in
         runs-at s at (i + 1) a (omega (arith, v .line .low)) (omega arith) (v .line .goes ∙ next-on s i h z) (more-body z)
         (v .first ∙ ap (λ (x : List ℕ). part s at i ++ x) one ∙ sym (part-more s at i (v .line .low) h))
       where
-        one : elementAt s i ≡ getD s i 0 ∷ []
+        one : elementFrom s i ≡ getD s i 0 ∷ []
         one = rw (body-on s i h (sym (no-end s i (getD s i 0) refl (omega (arith, d)))), eq-eqb (getD s i 0) 45 d)
 
 -- ---- a step
-past-within : (s : List ℕ) (after : ℕ) → after ≤ length s → pastEnd s after ≤ length s
+pub past-within : (s : List ℕ) (after : ℕ) → after ≤ length s → pastEnd s after ≤ length s
 past-within s after h =
     by-end (endingOf (drop after s)) (λ k e. rw e (omega (arith, next-here s after k e, next-within s after h))) (λ e. rw e h)
 
@@ -199,59 +198,24 @@ module _ (s : List ℕ) (after : ℕ) (f : Ending) (e : paperEnding f ≡ ending
   pub past-none : f ≡ ending.Nothing → after ≡ pastEnd s after
   past-none q = sym (ap (afterEnd after) (ending-none (endingOf (drop after s)) f e q))
 
-  pub ends-length : (k : ℕ) → f ≡ ending.Length k → true ≡ ends (endingOf (drop after s))
-  ends-length k q = rw (ending-length (endingOf (drop after s)) f e k q)
+  pub last-ended : (k : ℕ) → f ≡ ending.Length k → true ≡ lastOfLine s after
+  last-ended k q = rw (ending-length (endingOf (drop after s)) f e k q)
 
-  pub ends-none : f ≡ ending.Nothing → false ≡ ends (endingOf (drop after s))
-  ends-none q = rw (ending-none (endingOf (drop after s)) f e q)
-
-module _ (s : List ℕ) (after : ℕ) (t : Bool) (et : t ≡ ends (endingOf (drop after s))) where
-  pub last-ended : t ≡ true → true ≡ lastOfLine s after
-  last-ended y = rw (← et, y)
-
-  pub last-none : t ≡ false → leb (length s) after ≡ lastOfLine s after
-  last-none n = rw (← et, n)
+  pub last-none : f ≡ ending.Nothing → leb (length s) after ≡ lastOfLine s after
+  last-none q = rw (ending-none (endingOf (drop after s)) f e q)
 
 first-place : (at stop : ℕ) (B : List ℕ) (es : List Element) → nextPlace stop (elementsOfBody at B ++ es) ≡ at
 unfolding elementsAt
 first-place at stop [] es = refl
 first-place at stop (b ∷ t) es = rw (pieces-first dash b t)
 
-next-place : (s : List ℕ) (at : ℕ) → at ≤ length s → nextPlace (length s) (elementsFrom at (drop at s)) ≡ at
+pub next-place : (s : List ℕ) (at : ℕ) → at ≤ length s → nextPlace (length s) (elementsFrom at (drop at s)) ≡ at
 next-place s at h =
     by-order at (length s) (λ k. rw (elements-step s at k) (first-place at (length s) (bodyAt s at) _)) (λ k. rw (elements-last s at k) (omega arith))
 
 pub step-none : (s : List ℕ) (c : Cursor) → length s ≤ c .at → Wrong (length s) ≡ stepAt s c
 unfolding stepAt
 step-none s c h = rw (elements-last s (c .at) h)
-
-module _ (s : List ℕ) (c : Cursor) (after : ℕ) (r : Runs s (c .at) after) (g : Said) (eg : paperSaid g ≡ said (paperLast (c .last)) (take (after - c .at) (drop (c .at) s))) where
-  abbrev here : Element
-  here = record { at = c .at; bytes = part s (c .at) after; last = lastOfLine s after }
-
-  step-is : (x : Said) → g ≡ x → stepOver here (pastEnd s after) (paperSaid x) ≡ stepAt s c
-  unfolding stepAt
-  step-is x e = ap (λ (x : Said). stepOver here (pastEnd s after) (paperSaid x)) (sym e) ∙ rw (r .step, next-place s (pastEnd s after) (past-within s after (r .high)), eg)
-
-  pub step-covers : (next : ℕ) → next ≡ pastEnd s after → (p n m : ℕ) → g ≡ Covers p n m → Step.Covers p n m (record { at = next; last = Prefix p }) ≡ stepAt s c
-  step-covers next en p n m e = rw en (step-is (Covers p n m) e)
-
-  pub step-wrong : g ≡ Said.Wrong → Wrong (c .at) ≡ stepAt s c
-  step-wrong e = step-is Said.Wrong e
-
-  module _ (t : Stamp) (e : g ≡ Purge t) where
-    after-is : c .at + length (part s (c .at) after) ≡ after
-    after-is = omega (arith, part-length s (c .at) after (r .high), r .low)
-
-    step-purge : purged (lastOfLine s after) t (c .at) after ≡ stepAt s c
-    step-purge = ap (λ (x : ℕ). purged (lastOfLine s after) t (c .at) x) (sym after-is) ∙ step-is (Purge t) e
-
-    module _ (b : Bool) (l : b ≡ lastOfLine s after) where
-      pub step-last : b ≡ true → Step.Purge t (c .at) ≡ stepAt s c
-      step-last y = ap (λ (x : Bool). purged x t (c .at) after) (sym y ∙ l) ∙ step-purge
-
-      pub step-after : b ≡ false → Wrong after ≡ stepAt s c
-      step-after y = ap (λ (x : Bool). purged x t (c .at) after) (sym y ∙ l) ∙ step-purge
 
 -- ---- reading by steps
 runs-from : (k : ℕ) (s : List ℕ) (at i : ℕ) → at < length s → InElement s at i → length s ≤ i + k → (after : ℕ) × Runs s at after
@@ -267,9 +231,99 @@ runs-from (suc k) s at i a v h =
 pub runs : (s : List ℕ) (at : ℕ) → at < length s → (after : ℕ) × Runs s at after
 runs s at h = runs-from (length s) s at at h (element-start s at h) (omega arith)
 
+first-bytes : (at : ℕ) (B : List ℕ) (es : List Element) → firstBytes (elementsOfBody at B ++ es) ≡ firstPiece dash B
+unfolding elementsAt firstPiece
+first-bytes at [] es = refl
+first-bytes at (b ∷ t) es = rw (pieces-first dash b t)
+
+pub element-is : (s : List ℕ) (at : ℕ) → elementAt s at ≡ elementFrom s at
+unfolding elementAt firstPiece
+element-is s at =
+    by-order at (length s) (λ h. rw (elements-step s at h) (first-bytes at (bodyAt s at) _)) (λ h. rw (elements-last s at h, body-last s at h))
+
+-- ---- a step, by what the element at the reading place says
+element-part : (s : List ℕ) (at after : ℕ) → Runs s at after → elementAt s at ≡ part s at after
+unfolding elementAt
+element-part s at after r = ap firstBytes (r .step)
+
+step-over : (s : List ℕ) (c : Cursor) → c .at < length s
+    → stepOver (wholeAt s (c .at)) (pastEnd s (c .at + length (elementAt s (c .at)))) (said (paperLast (c .last)) (elementAt s (c .at))) ≡ stepAt s c
+unfolding stepAt
+step-over s c h =
+    let r = runs s (c .at) h in
+    let after : ℕ = r .0 in
+    let l : c .at + length (part s (c .at) after) ≡ after = omega (arith, part-length s (c .at) after (r .1 .high), r .1 .low) in
+    rw (element-part s (c .at) after (r .1), l, r .1 .step, next-place s (pastEnd s after) (past-within s after (r .1 .high)))
+
+-- an element that covers nothing is the purge, or wrong
+module _ (after : ℕ) where
+  abbrev WrongIfNothing : elements.Said → Type 0
+  WrongIfNothing x = coveredFor after x ≡ Covered.Nothing → x ≡ elements.wrong
+
+  numbers-wrong : (p : ℕ) (s : List ℕ) → WrongIfNothing (numbers p s)
+  unfolding numbers
+  numbers-wrong p s =
+      either-way WrongIfNothing (exactly singleForm s) (λ e. apart cc)
+      (either-way WrongIfNothing (exactly (word "ALL-") s) (λ e. apart cc)
+      (either-way WrongIfNothing (exactly rangeForm s && isRange (threeOf s) (threeOf (drop 4 s))) (λ e. apart cc) (λ e. refl)))
+
+  short-wrong : (last : Option ℕ) (s : List ℕ) → WrongIfNothing (short last s)
+  unfolding short
+  short-wrong none s e = refl
+  short-wrong (some p) s e = numbers-wrong p s e
+
+  covers-none : (last : Option ℕ) (s : List ℕ) → coveredFor after (said last s) ≡ Covered.Nothing → said last s ≡ saidOfPurge s
+  unfolding said saidOfPurge
+  covers-none last s e =
+      by (exactly purgeForm s) (λ y. rw y)
+      λ n. rw n (either-way WrongIfNothing (begins prefixForm s) (numbers-wrong (prefixOf s) (drop 3 s)) (short-wrong last s) (rw n at e))
+
+  over-covers : (s : List ℕ) (here : Element) (p n m to : ℕ) (x : elements.Said) → coveredFor after x ≡ Covered.Numbers p n m to
+      → Step.Covers p n m (record { at = pastEnd s to; last = Prefix p }) ≡ stepOver here (pastEnd s after) x
+  over-covers s here p n m to (elements.covers p′ n′ m′) e =
+      let ep : p′ ≡ p = cc in
+      let en : n′ ≡ n = cc in
+      let em : m′ ≡ m = cc in
+      let et : after ≡ to = cc in
+      rw (ep, en, em, et)
+  over-covers s here p n m to (elements.purge t) e = apart cc
+  over-covers s here p n m to elements.wrong e = apart cc
+
+  over-none : (here : Element) (next to : ℕ) (x : elements.Said) → coveredFor after x ≡ Covered.Nothing → stepOver here next x ≡ stepOver here to x
+  over-none here next to (elements.covers p n m) e = apart cc
+  over-none here next to (elements.purge t) e = refl
+  over-none here next to elements.wrong e = refl
+
+module _ (s : List ℕ) (c : Cursor) (h : c .at < length s) (g : Covered) (eg : g ≡ coveredAt s (c .at) (said (paperLast (c .last)) (elementAt s (c .at)))) where
+  abbrev after-it : ℕ
+  after-it = c .at + length (elementAt s (c .at))
+
+  told : (x : Covered) → g ≡ x → coveredFor after-it (said (paperLast (c .last)) (elementAt s (c .at))) ≡ x
+  unfolding coveredAt
+  told x e = sym eg ∙ e
+
+  pub step-covers : (p n m after : ℕ) → g ≡ Covered.Numbers p n m after → (next : ℕ) → next ≡ pastEnd s after
+      → Step.Covers p n m (record { at = next; last = Prefix p }) ≡ stepAt s c
+  step-covers p n m after e next en =
+      rw en (over-covers after-it s (wholeAt s (c .at)) p n m after (said (paperLast (c .last)) (elementAt s (c .at))) (told (Covered.Numbers p n m after) e) ∙ step-over s c h)
+
+  pub step-purge : g ≡ Covered.Nothing → (r : Step) → r ≡ purgeAt s (c .at) → r ≡ stepAt s c
+  unfolding purgeAt
+  step-purge e r er =
+      let none-covered = told Covered.Nothing e in
+      er ∙ rw (← covers-none after-it (paperLast (c .last)) (elementAt s (c .at)) none-covered) (over-none after-it (wholeAt s (c .at)) (c .at) (pastEnd s after-it) (said (paperLast (c .last)) (elementAt s (c .at))) none-covered) ∙ step-over s c h
+
+-- the step over a usual element
+pub step-usual : (s : List ℕ) (c : Cursor) → (c .at < length s) → (p : ℕ) → c .last ≡ Prefix p → (g : Covered) → Usual s (c .at) p g
+    → (q n m after : ℕ) → g ≡ Covered.Numbers q n m after → (next : ℕ) → next ≡ pastEnd s after
+    → Step.Covers q n m (record { at = next; last = Prefix q }) ≡ stepAt s c
+step-usual s c h p ep g u q n m after e next en =
+    let told : g ≡ coveredAt s (c .at) (said (paperLast (c .last)) (elementAt s (c .at))) = rw ep (u .is q n m after e) in
+    step-covers s c h g told q n m after e next en
+
 -- the block from a step on, with the places so far
 abbrev pub readThen : List ℕ → List ℕ → Step → Read
-readThen s got (Step.Covers p n m c) = readFrom (length s) (some p) (insertCovered p n m got) (elementsFrom (c .at) (drop (c .at) s))
+readThen s got (Step.Covers p n m next) = readFrom (length s) (some p) (insertCovered p n m got) (elementsFrom (next .at) (drop (next .at) s))
 readThen s got (Step.Purge t at) = block got t at
 readThen s got (Step.Wrong at) = wrongAt at
 
@@ -303,7 +357,6 @@ pub record Ahead (s : List ℕ) (c : Cursor) (p n m : ℕ) (next : Cursor) : Typ
   pub more : c .at < next .at
   pub within : next .at ≤ length s
   pub low : Low p n m
-  pub last : next .last ≡ Prefix p
 
 module _ (s : List ℕ) (c : Cursor) (p n m : ℕ) (next : Cursor) (b : Below (paperLast (c .last))) where
   over : (after : ℕ) → c .at < length s → Runs s (c .at) after → (x : elements.Said) → said (paperLast (c .last)) (part s (c .at) after) ≡ x
@@ -319,7 +372,6 @@ module _ (s : List ℕ) (c : Cursor) (p n m : ℕ) (next : Cursor) (b : Below (p
         more = rw (← to) (omega (arith, past-more s after));
         within = rw (← to) (past-within s after (r .high));
         low = rw (← ep, ← en, ← em) (covers-low (paperLast (c .last)) (part s (c .at) after) p′ n′ m′ b q);
-        last = ap (λ (k : Cursor). k .last) (sym to) ∙ ap Prefix ep;
       }
   over after h r (elements.purge t) q e = purged-no (lastOfLine s after) e
     where

@@ -1,19 +1,19 @@
 -- What the code's types mean, with the reading place, which moves forward one element at a time: it serves the code.
-use Prim.Native.Nat.{ℕ, _+_, _≤_}
+use Prim.Native.Nat.{ℕ, _+_}
 use mathlib.Core.Path.{_≡_}
 use mathlib.Core.List.{List, [], _∷_}
-use mathlib.Core.Bool.{Bool, true, false, _||_}
+use mathlib.Core.Bool.{Bool, true, false, cond, _||_}
 use mathlib.Core.Option.{Option, none, some}
 use lib.ListN.{length, drop}
 use lib.Dec.{leb}
-use Rattle.lines.specs.Spans.{part, endingOf, ends}
+use Rattle.lines.specs.Bytes.{exactly}
+use Rattle.lines.specs.Spans.{endingOf, ends}
 use Rattle.calendar.specs.declared.Stamp.{Stamp}
-use Rattle.codes.specs.Elements.{Element, elementsFrom, said}
+use Rattle.codes.specs.Elements.{Element, elementsFrom, purgeForm, stampOf, time, said}
 use Rattle.codes.specs.Elements as elements
 use Rattle.codes.specs.declared.Last.{Last}
 use Rattle.codes.specs.declared.Last.the-variants.{Prefix, Nothing}
-use Rattle.codes.specs.declared.Said.{Said}
-use Rattle.codes.specs.declared.Said.the-variants.{Covers, Purge, Wrong}
+use Rattle.codes.specs.declared.Covered.{Covered}
 use Rattle.codes.specs.declared.Cursor.{Cursor}
 use Rattle.codes.specs.declared.Step.{Step}
 
@@ -21,11 +21,6 @@ use Rattle.codes.specs.declared.Step.{Step}
 abbrev pub paperLast : Last → Option ℕ
 paperLast (Prefix p) = some p
 paperLast Nothing = none
-
-abbrev pub paperSaid : Said → elements.Said
-paperSaid (Covers p n m) = elements.covers p n m
-paperSaid (Purge s) = elements.purge s
-paperSaid Wrong = elements.wrong
 
 -- ---- "the reading place moves forward one element at a time"
 -- the place of the next element, or the text's length
@@ -48,7 +43,7 @@ abbrev pub stepFrom : ℕ → Option ℕ → List Element → Step
 stepFrom stop last [] = Step.Wrong stop
 stepFrom stop last (e ∷ es) = stepOver e (nextPlace stop es) (said last (e .bytes))
 
--- ---- the element that starts at a place and runs up to another, and the elements after it
+-- ---- behind an element that runs up to a place
 -- "A line of the block ends after a `-`": the next element stands behind the line's end, if one stands there
 abbrev pub afterEnd : ℕ → Option ℕ → ℕ
 afterEnd after none = after
@@ -61,11 +56,37 @@ pastEnd text after = afterEnd after (endingOf (drop after text))
 abbrev pub lastOfLine : List ℕ → ℕ → Bool
 lastOfLine text after = ends (endingOf (drop after text)) || leb (length text) after
 
-pub record Runs (text : List ℕ) (at after : ℕ) : Type 0 where
-  pub low : at ≤ after
-  pub high : after ≤ length text
-  pub step : elementsFrom at (drop at text)
-      ≡ record { at = at; bytes = part text at after; last = lastOfLine text after } ∷ elementsFrom (pastEnd text after) (drop (pastEnd text after) text)
-
 unfoldable pub stepAt : List ℕ → Cursor → Step
 stepAt text c = stepFrom (length text) (paperLast (c .last)) (elementsFrom (c .at) (drop (c .at) text))
+
+-- ---- the element that starts at a place
+abbrev pub firstBytes : List Element → List ℕ
+firstBytes [] = []
+firstBytes (e ∷ es) = e .bytes
+
+unfoldable pub elementAt : List ℕ → ℕ → List ℕ
+elementAt text at = firstBytes (elementsFrom at (drop at text))
+
+-- what an element covers that says this and runs up to `after`
+abbrev pub coveredFor : ℕ → elements.Said → Covered
+coveredFor after (elements.covers p n m) = Covered.Numbers p n m after
+coveredFor after (elements.purge s) = Covered.Nothing
+coveredFor after elements.wrong = Covered.Nothing
+
+unfoldable pub coveredAt : List ℕ → ℕ → elements.Said → Covered
+coveredAt text at x = coveredFor (at + length (elementAt text at)) x
+
+-- what was told of the element at a place under the prefix p: if it covers numbers, then these
+pub record Usual (text : List ℕ) (at p : ℕ) (r : Covered) : Type 0 where
+  pub is : (q n m after : ℕ) → r ≡ Covered.Numbers q n m after → r ≡ coveredAt text at (said (some p) (elementAt text at))
+
+-- what an element says that covers nothing: it is the purge, or wrong
+unfoldable pub saidOfPurge : List ℕ → elements.Said
+saidOfPurge s = cond (exactly purgeForm s) (time (stampOf s)) elements.wrong
+
+abbrev pub wholeAt : List ℕ → ℕ → Element
+wholeAt text at = record { at = at; bytes = elementAt text at; last = lastOfLine text (at + length (elementAt text at)) }
+
+-- the step over such an element, which leads to no next one
+unfoldable pub purgeAt : List ℕ → ℕ → Step
+purgeAt text at = stepOver (wholeAt text at) at (saidOfPurge (elementAt text at))

@@ -23,7 +23,7 @@ use Rattle.calendar.specs.Purge.{purgeOf}
 use Rattle.calendar.proofs.Laws.{purge-low}
 use Rattle.codes.specs.Places.{capacity}
 use Rattle.codes.specs.Block as codes
-use Rattle.codes.specs.Block.{Read, counted, dated, contentIn, contentAt, readBlock, block, wrongAt}
+use Rattle.codes.specs.Block.{Read, counted, dated, contentIn, contentAt, readBlock, twiceAt, block, wrongAt}
 use Rattle.bulletin.specs.Seen.{segmentsHeld, Sized}
 use Rattle.bulletin.specs.declared.Segment.{Segment}
 use Rattle.bulletin.specs.declared.Segments.{Segments}
@@ -51,13 +51,14 @@ dated-kept : (start at : ℕ) (ps : List ℕ) (o : Option ℕ) (c : codes.Conten
 dated-kept start at ps none c h e = apart cc
 dated-kept start at ps (some t) c h e = counted-kept start (record { purge = t; places = ps }) c (h t refl) e
 
-in-kept : (issue start : ℕ) (r : Read) (c : codes.Content) → contentIn issue start r ≡ ok c → Kept c
-in-kept issue start (wrongAt place) c e = apart cc
-in-kept issue start (block ps s at) c e = dated-kept start at ps (purgeOf issue s) c (λ t q. omega (arith, purge-low issue s t q)) e
+in-kept : (issue start : ℕ) (w : Option ℕ) (r : Read) (c : codes.Content) → contentIn issue start w r ≡ ok c → Kept c
+in-kept issue start w (wrongAt place) c e = apart cc
+in-kept issue start (some y) (block ps s at) c e = apart cc
+in-kept issue start none (block ps s at) c e = dated-kept start at ps (purgeOf issue s) c (λ t q. omega (arith, purge-low issue s t q)) e
 
 pub content-kept : (text : List ℕ) (issue start : ℕ) (c : codes.Content) → contentAt text issue start ≡ ok c → Kept c
 unfolding contentAt
-content-kept text issue start c e = in-kept issue start (readBlock text start) c e
+content-kept text issue start c e = in-kept issue start (twiceAt text start) (readBlock text start) c e
 
 -- ---- the contents, one after another
 contents-length : (i : ℕ) (kept : List ℕ) (gs : List Segment) → length (contentsFrom i kept gs) ≡ length gs

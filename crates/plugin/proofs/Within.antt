@@ -3,7 +3,7 @@ use Prim.Native.Nat.{ℕ, zero, suc, _+_, _≤_, _<_, suc-le-suc, min}
 use native.Mathlib.Nat.{min-le-left}
 use native.Mathlib.Omega.{arith}
 use mathlib.Core.Path.{_≡_, refl, sym, ap, _∙_, subst}
-use mathlib.Core.Bool.{Bool, true, false}
+use mathlib.Core.Bool.{Bool, true, false, cond}
 use mathlib.Core.List.{List, [], _∷_}
 use mathlib.Core.Option.{Option, none, some}
 use lib.ListN.{length, drop, length-drop}
@@ -12,7 +12,7 @@ use borrow.Author.Tests.{ltb-true}
 use Rattle.laws.proofs.Tests.{by, apart, either-way}
 use Rattle.laws.proofs.Lists.{all-append}
 use Rattle.laws.specs.Lists.{All, all-nil, all-cons}
-use Rattle.refusal.specs.Numbers.{Reason, wrongText, wrongTime, wrongBlock, noSegment, noEnd, ninthSegment, tooManyPlaces}
+use Rattle.refusal.specs.Numbers.{Reason, wrongText, wrongTime, wrongBlock, noSegment, noEnd, ninthSegment, tooManyPlaces, placeTwice}
 use Rattle.refusal.specs.Answer.{Answer, ok, no, refused, refusedAt, must, andThen}
 use Rattle.lines.specs.Bytes.{lf}
 use Rattle.lines.specs.Lines.{glue, pieces, lineEnd, bodyOf, Line, linesAt, linesFrom, linesOf, blank, isEnd, opens}
@@ -20,8 +20,9 @@ use Rattle.lines.specs.Check.{allowed, badByte, lineMost, longLine, lastEnds, u
 use Rattle.calendar.specs.Purge.{purgeOf}
 use Rattle.codes.specs.Places.{capacity}
 use Rattle.codes.specs.Elements.{Element, dash, null, elementsAt, elementsOfBody, elementsOfLines, Said, covers, purge, wrong, said}
-use Rattle.codes.specs.Block.{insertCovered, Read, block, wrongAt, ended, readFrom, readBlock, Content, dated, contentIn, contentAt}
+use Rattle.codes.specs.Block.{insertCovered, Read, block, wrongAt, ended, readFrom, readBlock, Stretch, stretchOf, coveredBefore, twiceFrom, twiceAt, Content, dated, contentIn, contentAt}
 use Rattle.codes.proofs.Turns.{read-covers, read-purge, read-wrong}
+use Rattle.codes.proofs.Twice.{twice-covers, twice-purge, twice-wrong}
 use Rattle.reading.specs.Placed.{purgePlace, placedAt}
 use Rattle.bulletin.specs.Search.{fromFirst, upToFirst, later, closes}
 use Rattle.bulletin.specs.Mnd.{pastMnd}
@@ -123,6 +124,22 @@ read-in stop n h last got (all-cons {x = e} {xs = es} f a) = go (λ p k m. read-
         (ended-in n (e .last) (block got u (e .at)) (e .at + length (e .bytes)) (f .at) (f .end))
     go i wrong q = subst (λ (r : Read). lastOf r ≤ n) (sym (read-wrong stop last got e es q)) (f .at)
 
+-- and that of the first one that covers a place already covered
+twice-in : (n : ℕ) (last : Option ℕ) (before : List Stretch) {es : List Element} → All (Placed n) es → (y : ℕ) → twiceFrom last before es ≡ some y → y ≤ n
+unfolding twiceFrom
+twice-in n last before all-nil y w = apart cc
+twice-in n last before (all-cons {x = e} {xs = es} f a) y w = go (λ p l. twice-in n (some p) l a y) (said last (e .bytes)) refl
+  where
+    go : ((p : ℕ) (l : List Stretch) → twiceFrom (some p) l es ≡ some y → y ≤ n) → (r : Said) → said last (e .bytes) ≡ r → y ≤ n
+    go i (covers p k m) q =
+        let v : cond (coveredBefore (stretchOf p k m) before) (some (e .at)) (twiceFrom (some p) (stretchOf p k m ∷ before) es) ≡ some y =
+        sym (twice-covers last before e es p k m q) ∙ w in
+        by (coveredBefore (stretchOf p k m) before)
+        (λ t. let z : some (e .at) ≡ some y = rw t at v in let x : e .at ≡ y = cc in omega (arith, f .at))
+        (λ t. i p (stretchOf p k m ∷ before) (rw t at v))
+    go i (purge u) q = let z : none ≡ some y = sym (twice-purge last before e es u q) ∙ w in apart cc
+    go i wrong q = let z : none ≡ some y = sym (twice-wrong last before e es q) ∙ w in apart cc
+
 -- ---- answers: what is accepted has a property, and what is refused has a number and a place
 pub data Low (n : ℕ) {A : Type 0} (P : A → Type 0) : Answer A → Type 0 where
   low-ok : (x : A) → P x → Low n P (ok x)
@@ -223,9 +240,10 @@ module _ (n start : ℕ) (h : start ≤ n) where
   dated-low at ps (some t) k =
       either-way (Low n Any) (leb (length ps) capacity) (low-ok (record { purge = t; places = ps }) tt) (low-refused n Any tooManyPlaces start h)
 
-  content-in : (issue : ℕ) (r : Read) → lastOf r ≤ n → Low n Any (contentIn issue start r)
-  content-in issue (wrongAt place) k = low-refused n Any wrongBlock place k
-  content-in issue (block ps s at) k = dated-low at ps (purgeOf issue s) k
+  content-in : (issue : ℕ) (w : Option ℕ) (r : Read) → ((y : ℕ) → w ≡ some y → y ≤ n) → lastOf r ≤ n → Low n Any (contentIn issue start w r)
+  content-in issue w (wrongAt place) g k = low-refused n Any wrongBlock place k
+  content-in issue (some y) (block ps s at) g k = low-refused n Any placeTwice y (g y refl)
+  content-in issue none (block ps s at) g k = dated-low at ps (purgeOf issue s) k
 
   purge-low : (r : Read) → lastOf r ≤ n → Low n Any (purgePlace r)
   purge-low (wrongAt place) k = low-refused n Any wrongBlock place k
@@ -241,9 +259,14 @@ module _ (text : List ℕ) (n : ℕ) (fits : length text ≤ n) where
   block-in at h =
       read-in (length text) (length text) (omega arith) none [] (elements-lines (on-within text (length text) (omega arith) at h))
 
+  repeat-in : (at : ℕ) → at ≤ length text → (y : ℕ) → twiceAt text at ≡ some y → y ≤ length text
+  unfolding twiceAt
+  repeat-in at h = twice-in (length text) none [] (elements-lines (on-within text (length text) (omega arith) at h))
+
   content-low : (issue at : ℕ) → at ≤ length text → Low n Any (contentAt text issue at)
   unfolding contentAt
-  content-low issue at h = content-in n at (omega arith) issue (readBlock text at) (omega (arith, block-in at h))
+  content-low issue at h =
+      content-in n at (omega arith) issue (twiceAt text at) (readBlock text at) (λ y e. omega (arith, repeat-in at h y e)) (omega (arith, block-in at h))
 
   placed-low : (issue at : ℕ) → at ≤ length text → Low n Any (placedAt text issue at)
   unfolding placedAt

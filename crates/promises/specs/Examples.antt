@@ -116,7 +116,14 @@ holds (bulletinRefused bbb end r start) = isRefused r start (bulletinRead bbb en
 abbrev pub table : List Row
 table =
     writtenBack "MDC003-005>007-VAZ053-242100-" 5 "MDC003-005>007-VAZ053-242100-" 29
-    ∷ writtenBack "MDC005-003-006>007-005-242100-" 4 "MDC003-005>007-242100-" 22
+    ∷ writtenBack "MDC005-003-006>007-242100-" 4 "MDC003-005>007-242100-" 22
+    -- document 02, R-3: a place named twice is refused, where it is named again; 6 goes before, 5 and 11 come after
+    ∷ blockRefused usual "MDC005-003-006>007-005-242100-" 25 19
+    ∷ blockRefused usual "MDCALL-000-242100-" 25 7
+    ∷ blockRefused usual "MDC001-DCC001-MDC001-242100-" 25 14
+    ∷ blockRefused usual "MDC001-001-X-242100-" 6 11
+    ∷ blockRefused (dateAt 2003 1 31 12 1) "MDC001-001-301200-" 25 7
+    ∷ blockRefused usual "MDC001>250-001-242100-" 25 11
     ∷ placeIs "MDC003" 630_003
     ∷ placeIs "VAZ053" 1_093_053
     ∷ placeIs "ZZZ999" 1_351_999

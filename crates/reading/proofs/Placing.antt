@@ -5,11 +5,12 @@ use mathlib.Core.List.{List}
 use lib.ListN.{length, drop}
 use lib.Seq.{take-append-seam}
 use Rattle.laws.proofs.Tests.{apart}
+use mathlib.Core.Option.{Option}
 use Rattle.refusal.specs.Answer.{Answer, ok, no, andThen}
 use Rattle.refusal.specs.declared.Refusal.{Refusal}
 use Rattle.calendar.specs.Purge.{purgeOf}
 use Rattle.codes.specs.Block as codes
-use Rattle.codes.specs.Block.{Read, block, wrongAt, readBlock, contentIn, contentAt}
+use Rattle.codes.specs.Block.{Read, block, wrongAt, readBlock, twiceAt, contentIn, contentAt}
 use Rattle.reading.specs.Placed.{purgePlace, Placed, placedAt}
 use Rattle.reading.specs.Held.{vacant, placesFor, placesIn, contentFor, contentBy, paperContent}
 use Rattle.reading.specs.declared.Places.{Places}
@@ -70,11 +71,12 @@ unfolding andThen
 told-content (ok c) at = ap (λ (ps : List ℕ). ok (record { purge = c .purge; places = ps })) (places-held (c .places))
 told-content (no number place) at = refl
 
-told-block : (issue start : ℕ) (x : Read) → paperContent (contentFor (andThen (contentIn issue start x) (λ c. andThen (purgePlace x) (λ at. ok (record { content = c; at = at }))))) ≡ contentIn issue start x
+told-block : (issue start : ℕ) (t : Option ℕ) (x : Read)
+    → paperContent (contentFor (andThen (contentIn issue start t x) (λ c. andThen (purgePlace x) (λ at. ok (record { content = c; at = at }))))) ≡ contentIn issue start t x
 unfolding andThen
-told-block issue start (block ps s at) = told-content (contentIn issue start (block ps s at)) at
-told-block issue start (wrongAt place) = refl
+told-block issue start t (block ps s at) = told-content (contentIn issue start t (block ps s at)) at
+told-block issue start t (wrongAt place) = refl
 
 pub content-told : (text : List ℕ) (issue start : ℕ) (c : Content) → c ≡ contentFor (placedAt text issue start) → paperContent c ≡ contentAt text issue start
 unfolding placedAt contentAt
-content-told text issue start c e = ap paperContent e ∙ told-block issue start (readBlock text start)
+content-told text issue start c e = ap paperContent e ∙ told-block issue start (twiceAt text start) (readBlock text start)

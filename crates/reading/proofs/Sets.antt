@@ -3,25 +3,27 @@ use Prim.Native.Nat.{ℕ, zero, suc, _+_, _-_, _≤_, _<_}
 use native.Mathlib.Numerals.{add-one}
 use native.Mathlib.Nat.{add-zero, sub-zero}
 use native.Mathlib.Omega.{arith}
-use mathlib.Core.Path.{_≡_, refl, sym, ap, ap₂, _∙_}
-use mathlib.Core.List.{List, _++_, append-assoc}
-use mathlib.Core.Bool.{Bool, true, false}
+use mathlib.Core.Path.{_≡_, refl, sym, ap, ap₂, subst, _∙_}
+use mathlib.Core.List.{List, _∷_, _++_, append-assoc}
+use mathlib.Core.Bool.{Bool, true, false, _&&_}
 use mathlib.Core.Option.{none, some}
 use lib.ListN.{length, getD, take, drop, set, length-set, length-append, length-drop}
 use lib.Seq.{paste, paste-zero, paste-suc, length-paste, length-take-le, take-append-le, take-take, take-all, take-at, drop-at, drop-drop}
+use lib.Dec.{ltb}
 use borrow.Author.Tests.{le-leb, lt-leb}
 use Rattle.laws.proofs.Tests.{by-order, impossible, apart}
 use Rattle.laws.proofs.Lists.{drop-take}
-use Rattle.laws.proofs.Pastes.{up-turn}
+use Rattle.laws.proofs.Pastes.{up-turn, paste-down}
 use Rattle.codes.specs.Places.{placesEnd, upward}
 use Rattle.codes.specs.Serving.{First}
 use Rattle.codes.specs.Block.{insertRun}
-use Rattle.codes.proofs.Members.{run-split, below-take, from-drop, run-length, run-ascending}
+use Rattle.codes.proofs.Members.{run-split, below-take, from-drop, run-ascending}
 use Rattle.reading.specs.Held.{vacant, placesIn, Good}
-use Rattle.reading.specs.Runs.{capped, kept, heldBy, allBelow, Grown}
+use Rattle.reading.specs.Runs.{capped, kept, heldBy, holdsIn, allBelow, Grown}
 use Rattle.reading.specs.declared.Places.{Places}
-use Rattle.reading.specs.declared.Put.the-variants.{Total, Over}
-use Rattle.reading.proofs.Searches.{below-each}
+use Rattle.reading.specs.declared.Put.{Put}
+use Rattle.reading.specs.declared.Put.the-variants.{Total, Over, Twice}
+use Rattle.reading.proofs.Searches.{below-each, below-out, between-out, less-first, less-held}
 
 -- ---- moved up
 pub record Moved (held₀ held : List ℕ) (from to m k : ℕ) : Type 0 where
@@ -74,11 +76,11 @@ pub record Filled (held₀ held : List ℕ) (at n p k q : ℕ) : Type 0 where
   pub next : q ≡ p + k
   pub bytes : held ≡ paste held₀ at (upward p n) k
 
-pub filled-start : (held : List ℕ) (at n p : ℕ) → Filled held held at n p 0 p
-filled-start held at n p = record { left = omega arith; long = refl; next = omega arith; bytes = paste-zero held at (upward p n) }
+filled-none : (held : List ℕ) (at n p : ℕ) → Filled held held at n p 0 p
+filled-none held at n p = record { left = omega arith; long = refl; next = omega arith; bytes = paste-zero held at (upward p n) }
 
 module _ (held₀ held : List ℕ) (at n p k q : ℕ) (v : Filled held₀ held at n p k q) where
-  pub filled-on : at + n ≤ length held₀ → k < n → Filled held₀ (set held (at + k) q) at n p (k + 1) (q + 1)
+  filled-on : at + n ≤ length held₀ → k < n → Filled held₀ (set held (at + k) q) at n p (k + 1) (q + 1)
   filled-on h l =
       record {
         left = omega arith;
@@ -90,8 +92,47 @@ module _ (held₀ held : List ℕ) (at n p k q : ℕ) (v : Filled held₀ held a
             ∙ ap (paste held₀ at (upward p n)) (sym (add-one k));
       }
 
-  pub filled-done : n ≤ k → held ≡ paste held₀ at (upward p n) n
+  filled-done : n ≤ k → held ≡ paste held₀ at (upward p n) n
   filled-done h = let e : k ≡ n = omega (arith, v .left) in v .bytes ∙ rw e
+
+-- the others than the first, which is stored when they are
+pub record Filling (held₀ held : List ℕ) (at n p k q : ℕ) : Type 0 where
+  pub from : 1 ≤ k
+  pub left : k ≤ n
+  pub long : length held ≡ length held₀
+  pub next : q ≡ p + k
+  pub filled : Filled held₀ held (at + 1) (n - 1) (p + 1) (k - 1) q
+
+pub filling-start : (held : List ℕ) (at n p : ℕ) → 1 ≤ n → Filling held held at n p 1 (p + 1)
+filling-start held at n p h = record { from = omega arith; left = h; long = refl; next = refl; filled = filled-none held (at + 1) (n - 1) (p + 1) }
+
+module _ (held₀ held : List ℕ) (at n p k q : ℕ) (v : Filling held₀ held at n p k q) (fits : at + n ≤ length held₀) where
+  pub filling-on : k < n → Filling held₀ (set held (at + k) q) at n p (k + 1) (q + 1)
+  filling-on h =
+      let e : at + 1 + (k - 1) ≡ at + k = omega (arith, v .from) in
+      let f : k - 1 + 1 ≡ k + 1 - 1 = omega (arith, v .from) in
+      record {
+        from = omega arith;
+        left = omega arith;
+        long = simp length-set (v .long);
+        next = omega (arith, v .next);
+        filled =
+            subst (λ (j : ℕ). Filled held₀ (set held j q) (at + 1) (n - 1) (p + 1) (k + 1 - 1) (q + 1)) e
+            (subst (λ (j : ℕ). Filled held₀ (set held (at + 1 + (k - 1)) q) (at + 1) (n - 1) (p + 1) j (q + 1)) f
+            (filled-on held₀ held (at + 1) (n - 1) (p + 1) (k - 1) q (v .filled) (omega arith) (omega (arith, v .from))));
+      }
+
+  pub filling-done : n ≤ k → set held at p ≡ paste held₀ at (upward p n) n
+  unfolding upward
+  filling-done h =
+      let e : n ≡ suc (n - 1) = omega (arith, v .from, v .left) in
+      let all : held ≡ paste held₀ (at + 1) (upward (p + 1) (n - 1)) (n - 1) = filled-done held₀ held (at + 1) (n - 1) (p + 1) (k - 1) q (v .filled) (omega arith) in
+      let next : p + 1 ≡ suc p = omega arith in
+      let more : n - 1 + 1 ≡ n = omega arith in
+      ap (λ (x : List ℕ). set x at p) all
+      ∙ paste-down 0 held₀ (upward (p + 1) (n - 1)) at (n - 1) p (omega arith)
+      ∙ ap₂ (λ (x : ℕ) (m : ℕ). paste held₀ at (p ∷ upward x (n - 1)) m) next more
+      ∙ ap (λ (m : ℕ). paste held₀ at (upward p m) n) (sym e)
 
 -- ---- at most 120
 pub capped-few : (l : List ℕ) → length l ≤ 120 → capped l ≡ some l
@@ -119,105 +160,126 @@ rest-more held count total h e =
     let n : count + (total - count) ≡ total = omega arith in
     sym (drop-drop (total - count) count held ∙ rw n) ∙ ap (drop (total - count)) e ∙ drop-drop (total - count) count vacant ∙ rw n
 
--- ---- a run put in at once
-module _ (held : List ℕ) (count p q n i j : ℕ) (g : Good (kept held count)) (pq : p ≤ q) (en : n ≡ q - p) (fi : First p (take count held) i) (fj : First q (take count held) j) where
+-- ---- a run put in at once, between those that are less than its first place and those that are not less than its end
+module _ (held : List ℕ) (count p q n i : ℕ) (g : Good (kept held count)) (pq : p < q) (en : n ≡ q - p) (fp : First p (take count held) i) (fq : First q (take count held) i)
+    (free : holdsIn p (q - 1) (take count held) ≡ false) where
   abbrev l : List ℕ
   l = take count held
 
   l-long : length l ≡ count
   l-long = length-take-le count held (omega (arith, g .long, g .few))
 
-  split : insertRun n p l ≡ take i l ++ (upward p n ++ drop j l)
+  i-low : i ≤ count
+  i-low = omega (arith, fp .within, l-long)
+
+  split : insertRun n p l ≡ take i l ++ (upward p n ++ drop i l)
   split =
       let e : p + n ≡ q = omega arith in
-      run-split n p (g .rising) ∙ rw (e, below-take p l i fi, from-drop q l j fj)
+      run-split n p (g .rising) ∙ rw (e, below-take p l i fp, from-drop q l i fq)
 
-  run-long : length (insertRun n p l) ≡ i + n + (count - j)
-  run-long = rw (split, length-append, length-append, length-take-le i l (fi .within), upward-length, length-drop) (omega (arith, l-long))
+  run-long : length (insertRun n p l) ≡ count + n
+  run-long = rw (split, length-append, length-append, length-take-le i l (fp .within), upward-length, length-drop) (omega (arith, l-long, i-low))
 
   same-run : insertRun (q - p) p l ≡ insertRun n p l
   same-run = ap (λ (k : ℕ). insertRun k p l) (sym en)
 
-  -- there are not more places between p and q than numbers
-  pub moves-up : j ≤ i + n
-  moves-up = omega (arith, run-long, run-length n p l, l-long, fj .within)
-
-  pub insert-over : 120 < i + n + (count - j) → Grown held count p q held Over
-  insert-over h =
-      record {
-        good = g;
-        held = rw same-run (sym (capped-many (insertRun n p l) (omega (arith, run-long))));
-      }
+  run-over : 120 < count + n → Grown held count p q held Over
+  run-over h = record { good = g; twice = sym free; held = λ e. rw same-run (sym (capped-many (insertRun n p l) (omega (arith, run-long)))) }
 
   -- after both moves the places stand in front
-  module _ (room : i + n + (count - j) ≤ 120) where
+  module _ (room : count + n ≤ 120) where
     abbrev moved : List ℕ
-    moved = paste held (i + n) (drop j held) (count - j)
+    moved = paste held (i + n) (drop i held) (count - i)
 
-    i-low : i ≤ count
-    i-low = omega (arith, fi .within, l-long)
+    abbrev rest : List ℕ
+    rest = drop (i + n + (count - i)) held
 
-    j-low : j ≤ count
-    j-low = omega (arith, fj .within, l-long)
+    total : i + n + (count - i) ≡ count + n
+    total = omega (arith, i-low)
 
-    tail : drop (i + n) moved ≡ drop j l ++ drop (i + n + (count - j)) held
+    tail : drop (i + n) moved ≡ drop i l ++ rest
     tail =
-        let e : take (i + n) held ++ (take (count - j) (drop j held) ++ drop (i + n + (count - j)) held) ≡ moved = sym (append-assoc (take (i + n) held) (take (count - j) (drop j held)) (drop (i + n + (count - j)) held)) in
+        let e : take (i + n) held ++ (take (count - i) (drop i held) ++ rest) ≡ moved = sym (append-assoc (take (i + n) held) (take (count - i) (drop i held)) rest) in
         ap (drop (i + n)) (sym e)
-        ∙ drop-at (take (i + n) held) (take (count - j) (drop j held) ++ drop (i + n + (count - j)) held) (i + n) (length-take-le (i + n) held (omega arith))
-        ∙ ap (λ (x : List ℕ). x ++ drop (i + n + (count - j)) held) (sym (drop-take j count held j-low (omega (arith, j-low))))
+        ∙ drop-at (take (i + n) held) (take (count - i) (drop i held) ++ rest) (i + n) (length-take-le (i + n) held (omega (arith, g .long, i-low)))
+        ∙ ap (λ (x : List ℕ). x ++ rest) (sym (drop-take i count held i-low (omega (arith, g .long, g .few, i-low))))
 
     front : take i moved ≡ take i l
     front =
-        take-append-le i (take (i + n) held ++ take (count - j) (drop j held)) (drop (i + n + (count - j)) held) (omega (arith, length-append (take (i + n) held) (take (count - j) (drop j held)), length-take-le (i + n) held (omega arith)))
-        ∙ take-append-le i (take (i + n) held) (take (count - j) (drop j held)) (omega (arith, length-take-le (i + n) held (omega arith)))
+        let k : length (take (i + n) held) ≡ i + n = length-take-le (i + n) held (omega (arith, g .long, i-low)) in
+        take-append-le i (take (i + n) held ++ take (count - i) (drop i held)) rest (omega (arith, length-append (take (i + n) held) (take (count - i) (drop i held)), k))
+        ∙ take-append-le i (take (i + n) held) (take (count - i) (drop i held)) (omega (arith, k))
         ∙ take-take i (i + n) held (omega arith)
         ∙ sym (take-take i count held i-low)
 
     regroup : (a b c d : List ℕ) → a ++ b ++ (c ++ d) ≡ (a ++ (b ++ c)) ++ d
     regroup a b c d = simp append-assoc
 
-    whole : paste moved i (upward p n) n ≡ insertRun n p l ++ drop (i + n + (count - j)) held
+    whole : paste moved i (upward p n) n ≡ insertRun n p l ++ rest
     whole =
         ap₂ (λ (x y : List ℕ). x ++ take n (upward p n) ++ y) front tail
-        ∙ ap (λ (x : List ℕ). take i l ++ x ++ (drop j l ++ drop (i + n + (count - j)) held)) (take-all n (upward p n) (omega (arith, upward-length p n)))
-        ∙ regroup (take i l) (upward p n) (drop j l) (drop (i + n + (count - j)) held)
-        ∙ ap (λ (x : List ℕ). x ++ drop (i + n + (count - j)) held) (sym split)
+        ∙ ap (λ (x : List ℕ). take i l ++ x ++ (drop i l ++ rest)) (take-all n (upward p n) (omega (arith, upward-length p n)))
+        ∙ regroup (take i l) (upward p n) (drop i l) rest
+        ∙ ap (λ (x : List ℕ). x ++ rest) (sym split)
 
-    total-more : count ≤ i + n + (count - j)
-    total-more = omega (arith, moves-up)
-
-    rest-in : drop (i + n + (count - j)) (paste moved i (upward p n) n) ≡ drop (i + n + (count - j)) vacant
+    rest-in : drop (count + n) (paste moved i (upward p n) n) ≡ drop (count + n) vacant
     rest-in =
-        ap (drop (i + n + (count - j))) whole ∙ drop-at (insertRun n p l) (drop (i + n + (count - j)) held) (i + n + (count - j)) run-long
-        ∙ rest-more held count (i + n + (count - j)) total-more (g .rest)
+        ap (drop (count + n)) whole ∙ drop-at (insertRun n p l) rest (count + n) run-long
+        ∙ ap (λ (k : ℕ). drop k held) total ∙ rest-more held count (count + n) (omega arith) (g .rest)
 
-    run-in : take (i + n + (count - j)) (paste moved i (upward p n) n) ≡ insertRun n p l
-    run-in = ap (take (i + n + (count - j))) whole ∙ take-at (insertRun n p l) (drop (i + n + (count - j)) held) (i + n + (count - j)) run-long
+    run-in : take (count + n) (paste moved i (upward p n) n) ≡ insertRun n p l
+    run-in = ap (take (count + n)) whole ∙ take-at (insertRun n p l) rest (count + n) run-long
 
-    pub insert-total : q ≤ placesEnd → (array filled : List ℕ) → array ≡ moved → filled ≡ paste array i (upward p n) n → Grown held count p q filled (Total (i + n + (count - j)))
-    insert-total e array filled ea ef =
-        let la : length array ≡ length held = ap length ea ∙ length-paste held (i + n) (drop j held) (count - j) (omega (arith, g .long)) (omega (arith, g .few, g .long, length-drop j held)) in
-        let lf : length filled ≡ length array = ap length ef ∙ length-paste array i (upward p n) n (omega (arith, g .long)) (omega (arith, upward-length p n)) in
-        let is : take (i + n + (count - j)) filled ≡ insertRun n p l = rw (ef, ea) run-in in
+    run-total : q ≤ placesEnd → (array filled : List ℕ) → array ≡ moved → filled ≡ paste array i (upward p n) n → Grown held count p q filled (Total (count + n))
+    run-total e array filled ea ef =
+        let la : length array ≡ length held = ap length ea ∙ length-paste held (i + n) (drop i held) (count - i) (omega (arith, g .long, i-low)) (omega (arith, g .few, g .long, length-drop i held)) in
+        let lf : length filled ≡ length array = ap length ef ∙ length-paste array i (upward p n) n (omega (arith, g .long, i-low)) (omega (arith, upward-length p n)) in
+        let is : take (count + n) filled ≡ insertRun n p l = rw (ef, ea) run-in in
         record {
           good = record { long = lf ∙ la ∙ g .long; few = room; rising = rw is (run-ascending n p (omega arith) (omega arith) (g .rising)); rest = rw (ef, ea) rest-in };
-          held = rw (is, same-run) (sym (capped-few (insertRun n p l) (omega (arith, run-long))));
+          twice = sym free;
+          held = λ x. rw (is, same-run) (sym (capped-few (insertRun n p l) (omega (arith, run-long))));
         }
 
+-- ---- among the places held, where the first that is not below p tells
+module _ (held : List ℕ) (count p q n i : ℕ) (g : Good (kept held count)) (pq : p < q) (en : n ≡ q - p) (fp : First p (take count held) i)
+    (less : Bool) (is : less ≡ (ltb i count && ltb (getD held i 0) q)) where
+  long : count ≤ length held
+  long = omega (arith, g .long, g .few)
+
+  pub insert-twice : less ≡ true → Grown held count p q held Twice
+  insert-twice t = record { good = g; twice = sym (less-held held count p q i fp long less is t); held = λ e. apart cc }
+
+  module _ (t : less ≡ false) where
+    fq : First q (take count held) i
+    fq = less-first held count p q i fp long less is pq t
+
+    free-of : holdsIn p (q - 1) (take count held) ≡ false
+    free-of = between-out p q i (g .rising) pq fp fq
+
+    pub insert-over : 120 < count + n → Grown held count p q held Over
+    insert-over = run-over held count p q n i g pq en fp fq free-of
+
+    pub insert-total : count + n ≤ 120 → q ≤ placesEnd → (array filled : List ℕ) → array ≡ paste held (i + n) (drop i held) (count - i)
+        → filled ≡ paste array i (upward p n) n → Grown held count p q filled (Total (count + n))
+    insert-total = run-total held count p q n i g pq en fp fq free-of
+
 -- ---- behind places that are all below p nothing has to move
-module _ (held : List ℕ) (count p q n : ℕ) (g : Good (kept held count)) (pq : p ≤ q) (en : n ≡ q - p) (low : allBelow p (take count held) ≡ true) where
+module _ (held : List ℕ) (count p q n : ℕ) (g : Good (kept held count)) (pq : p < q) (en : n ≡ q - p) (low : allBelow p (take count held) ≡ true) where
   at-end : (x : ℕ) → p ≤ x → First x (take count held) count
   at-end x h =
       let l : length (take count held) ≡ count = length-take-le count held (omega (arith, g .long, g .few)) in
       record { within = omega arith; low = λ j k. omega (arith, below-each p (take count held) low j (omega arith)); high = λ k. impossible (omega arith) }
 
   pub append-over : 120 < count + n → Grown held count p q held Over
-  append-over h = insert-over held count p q n count count g pq en (at-end p (omega arith)) (at-end q pq) (omega arith)
+  append-over = run-over held count p q n count g pq en (at-end p (omega arith)) (at-end q (omega arith)) (below-out p (q - 1) (take count held) low)
 
   pub append-total : q ≤ placesEnd → count + n ≤ 120 → (filled : List ℕ) → filled ≡ paste held count (upward p n) n → Grown held count p q filled (Total (count + n))
   append-total e h filled ef =
       let z : 0 ≡ count - count = omega arith in
-      let sum : count + n ≡ count + n + (count - count) = omega arith in
       let same : held ≡ paste held (count + n) (drop count held) (count - count) = paste-zero held (count + n) (drop count held) ∙ ap (paste held (count + n) (drop count held)) z in
-      rw sum (insert-total held count p q n count count g pq en (at-end p (omega arith)) (at-end q pq) (omega arith) e held filled same ef)
+      run-total held count p q n count g pq en (at-end p (omega arith)) (at-end q (omega arith)) (below-out p (q - 1) (take count held) low) h e held filled same ef
+
+-- ---- by other names of the same places
+pub grown-as : (before : List ℕ) (count p q x y : ℕ) → p ≡ x → q ≡ y → (array : List ℕ) (put : Put) → Grown before count p q array put → Grown before count x y array put
+grown-as before count p q x y ep eq array put g = rw (← ep, ← eq) g

@@ -3,6 +3,7 @@ use Prim.Native.Nat.{ℕ, _≤_}
 use mathlib.Core.Path.{_≡_}
 use mathlib.Core.List.{List, [], _++_}
 use mathlib.Core.Bool.{Bool, true, false, cond}
+use mathlib.Core.Option.{Option, none, some}
 use lib.ListN.{length, take, drop, replicate}
 use lib.Dec.{leb}
 use Rattle.refusal.specs.Answer.{Answer, ok, no, paperRefusal}
@@ -11,7 +12,8 @@ use Rattle.codes.specs.Places.{Ascending, capacity}
 use Rattle.codes.specs.Block as codes
 use Rattle.reading.specs.Placed.{Placed}
 use Rattle.reading.specs.declared.Places.{Places}
-use Rattle.reading.specs.declared.Found.the-variants.{Whole, Wrong}
+use Rattle.reading.specs.declared.Found.{Found}
+use Rattle.reading.specs.declared.Found.the-variants.{Whole, Twice, Wrong}
 use Rattle.reading.specs.declared.Block.{Block}
 use Rattle.reading.specs.declared.Purge.{Purge}
 use Rattle.reading.specs.declared.Purge.the-variants.{At, Refused}
@@ -35,13 +37,18 @@ pub record Good (t : Places) : Type 0 where
   pub rising : Ascending 0 (placesIn t)
   pub rest : drop (t .count) (t .held) ≡ drop (t .count) vacant
 
--- ---- a block: DDHHMM, the place of the purge element and the places, if they are few enough; or the place of the first wrong element
-abbrev pub wholeFor : Stamp → ℕ → Bool → List ℕ → Block
-wholeFor s at over ps = record { found = Whole s at; over = over; places = placesFor ps }
+-- ---- a block: DDHHMM, the place of the purge element and the places, if they are few enough; the place of the first element that covers a place already covered;
+-- or that of the first wrong element
+abbrev pub bareFor : Found → Bool → Block
+bareFor found over = record { found = found; over = over; places = placesFor [] }
 
-abbrev pub blockFor : codes.Read → Block
-blockFor (codes.block ps s at) = cond (leb (length ps) capacity) (wholeFor s at false ps) (wholeFor s at true [])
-blockFor (codes.wrongAt place) = record { found = Wrong place; over = false; places = placesFor [] }
+abbrev pub wholeFor : Option ℕ → Stamp → ℕ → List ℕ → Block
+wholeFor none s at ps = cond (leb (length ps) capacity) (record { found = Whole s at; over = false; places = placesFor ps }) (bareFor (Whole s at) true)
+wholeFor (some again) s at ps = bareFor (Twice again) false
+
+abbrev pub blockFor : Option ℕ → codes.Read → Block
+blockFor twice (codes.block ps s at) = wholeFor twice s at ps
+blockFor twice (codes.wrongAt place) = bareFor (Wrong place) false
 
 -- ---- a segment's content; on a refusal no places
 abbrev pub contentFor : Answer Placed → Content

@@ -1,19 +1,27 @@
 -- Serves the code: what the functions of this crate say to each other while a block is read. Of a lent array the first `count` numbers are the places held.
 -- Nothing outside the crate builds on it.
-use Prim.Native.Nat.{ℕ, _-_}
+use Prim.Native.Nat.{ℕ, _-_, _<_}
 use mathlib.Core.Path.{_≡_}
-use mathlib.Core.List.{List}
-use mathlib.Core.Bool.{Bool, true, false, cond}
+use mathlib.Core.List.{List, [], _∷_}
+use mathlib.Core.Bool.{Bool, true, false, cond, _&&_, _||_}
 use mathlib.Core.Option.{Option, none, some}
-use lib.ListN.{length, take}
+use lib.ListN.{length, take, drop}
 use lib.Dec.{ltb, leb}
 use Rattle.laws.specs.Lists.{every}
-use Rattle.codes.specs.Places.{capacity}
-use Rattle.codes.specs.Block.{insertRun}
-use Rattle.reading.specs.Held.{placesIn, Good}
+use Rattle.calendar.specs.declared.Stamp.{Stamp}
+use Rattle.codes.specs.Places.{capacity, prefixes}
+use Rattle.codes.specs.Elements.{elementsFrom}
+use Rattle.codes.specs.Block.{insertRun, Read, block, wrongAt, readFrom}
+use Rattle.codes.specs.Cursor.{paperLast}
+use Rattle.codes.specs.declared.Cursor.{Cursor}
+use Rattle.reading.specs.Held.{placesIn, Good, bareFor}
 use Rattle.reading.specs.declared.Places.{Places}
 use Rattle.reading.specs.declared.Put.{Put}
-use Rattle.reading.specs.declared.Put.the-variants.{Total, Over}
+use Rattle.reading.specs.declared.Put.the-variants as put
+use Rattle.reading.specs.declared.Rest.{Rest}
+use Rattle.reading.specs.declared.Rest.the-variants as rest
+use Rattle.reading.specs.declared.Found.the-variants as found
+use Rattle.reading.specs.declared.Block.{Block}
 
 -- at most 120 places, or none: there are more
 unfoldable pub capped : List ℕ → Option (List ℕ)
@@ -27,20 +35,56 @@ abbrev pub heldBy : Bool → Places → Option (List ℕ)
 heldBy true t = none
 heldBy false t = some (placesIn t)
 
--- what they hold after a run was put in: a new count, or the old one and the mark
+-- what they hold after a run was put in: a new count, or what they held before
 abbrev pub after : List ℕ → ℕ → Put → Places
-after held count (Total n) = kept held n
-after held count Over = kept held count
+after held count (put.Total n) = kept held n
+after held count put.Over = kept held count
+after held count put.Twice = kept held count
 
 abbrev pub isOver : Put → Bool
-isOver (Total n) = false
-isOver Over = true
+isOver (put.Total n) = false
+isOver put.Over = true
+isOver put.Twice = false
 
--- the places from p up to before q were put into the array `before`, which held `count`; if they would be too many it is as it was
+abbrev pub isTwice : Put → Bool
+isTwice (put.Total n) = false
+isTwice put.Over = false
+isTwice put.Twice = true
+
+-- one of these places lies from `low` to `high`
+unfoldable pub holdsIn : ℕ → ℕ → List ℕ → Bool
+holdsIn low high [] = false
+holdsIn low high (q ∷ qs) = (leb low q && leb q high) || holdsIn low high qs
+
+-- the places from p up to before q were put into the array `before`, which held `count`, unless one of them was held already or they would be too many
 pub record Grown (before : List ℕ) (count p q : ℕ) (array : List ℕ) (put : Put) : Type 0 where
   pub good : Good (after array count put)
-  pub held : heldBy (isOver put) (after array count put) ≡ capped (insertRun (q - p) p (take count before))
+  pub twice : isTwice put ≡ holdsIn p (q - 1) (take count before)
+  pub held : isTwice put ≡ false → heldBy (isOver put) (after array count put) ≡ capped (insertRun (q - p) p (take count before))
 
 -- every place of the list is less than p
 abbrev pub allBelow : ℕ → List ℕ → Bool
 allBelow p l = every (λ (x : ℕ). ltb x p) l
+
+-- ---- the rest of a block, of which no place is kept
+-- the last prefix, if there is one, is a prefix
+pub record Known (c : Cursor) : Type 0 where
+  pub low : (p : ℕ) → paperLast (c .last) ≡ some p → p < prefixes
+
+-- read from the reading place on
+abbrev pub readOn : List ℕ → Cursor → Read
+readOn s c = readFrom (length s) (paperLast (c .last)) [] (elementsFrom (c .at) (drop (c .at) s))
+
+-- where it ends
+abbrev pub restOf : Read → Rest
+restOf (block ps s at) = rest.Purge s at
+restOf (wrongAt place) = rest.Wrong place
+
+-- a block of which no place is kept: where it ends, and the element that covers a place already covered; if there is none, the places are more than 120
+abbrev pub manyFor : Option ℕ → Stamp → ℕ → Block
+manyFor none s at = bareFor (found.Whole s at) true
+manyFor (some again) s at = bareFor (found.Twice again) false
+
+abbrev pub overFor : Option ℕ → Rest → Block
+overFor twice (rest.Purge s at) = manyFor twice s at
+overFor twice (rest.Wrong place) = bareFor (found.Wrong place) false

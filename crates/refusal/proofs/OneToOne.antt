@@ -5,7 +5,7 @@ use mathlib.Core.List.{List, [], _∷_}
 use mathlib.Core.Bool.{true, cond, _&&_}
 use lib.Dec.{eqb, leb, ltb}
 use Rattle.laws.proofs.Tests.{apart}
-use Rattle.refusal.specs.Numbers.{Reason, numberOf, wrongLength, wrongText, wrongHeading, wrongIdentifier, wrongTime, wrongBlock, noSegment, noEnd, ninthSegment, wrongStorm, tooManyPlaces, notSound, noDraft, allOpen, noSuchSegment, notTaken, takenAlready, twoTaken, segmentFull, onlyPlace, staleDraft, noStep, outputShort, outOfRange, notBelonging}
+use Rattle.refusal.specs.Numbers.{Reason, numberOf, wrongLength, wrongText, wrongHeading, wrongIdentifier, wrongTime, wrongBlock, noSegment, noEnd, ninthSegment, wrongStorm, tooManyPlaces, notSound, noDraft, allOpen, noSuchSegment, notTaken, takenAlready, twoTaken, segmentFull, onlyPlace, staleDraft, noStep, outputShort, outOfRange, placeTwice, notBelonging}
 use Rattle.refusal.specs.Answer.{Answer, paperRefusal, paperVerdict}
 use Rattle.refusal.specs.declared.Refusal.{Refusal}
 use Rattle.refusal.specs.declared.Verdict.{Verdict}
@@ -14,7 +14,7 @@ use Rattle.refusal.specs.declared.Verdict.the-variants.{Accepted, Refuse
 -- the table's rows, in order
 rows : List Reason
 rows =
-    wrongLength ∷ wrongText ∷ wrongHeading ∷ wrongIdentifier ∷ wrongTime ∷ wrongBlock ∷ noSegment ∷ noEnd ∷ ninthSegment ∷ wrongStorm ∷ tooManyPlaces ∷ notSound ∷ noDraft ∷ allOpen ∷ noSuchSegment ∷ notTaken ∷ takenAlready ∷ twoTaken ∷ segmentFull ∷ onlyPlace ∷ staleDraft ∷ noStep ∷ outputShort ∷ outOfRange ∷ notBelonging ∷ []
+    wrongLength ∷ wrongText ∷ wrongHeading ∷ wrongIdentifier ∷ wrongTime ∷ wrongBlock ∷ noSegment ∷ noEnd ∷ ninthSegment ∷ wrongStorm ∷ tooManyPlaces ∷ notSound ∷ noDraft ∷ allOpen ∷ noSuchSegment ∷ notTaken ∷ takenAlready ∷ twoTaken ∷ segmentFull ∷ onlyPlace ∷ staleDraft ∷ noStep ∷ outputShort ∷ outOfRange ∷ placeTwice ∷ notBelonging ∷ []
 
 -- the first of these rows that has the number
 rowOf : List Reason → ℕ → Reason
@@ -23,7 +23,7 @@ rowOf (r ∷ rs) n = cond (eqb (numberOf r) n) r (rowOf rs n)
 
 row-back : (r : Reason) → rowOf rows (numberOf r) ≡ r
 unfolding rows rowOf
-row-back = elim [ wrongLength ↦ refl | wrongText ↦ refl | wrongHeading ↦ refl | wrongIdentifier ↦ refl | wrongTime ↦ refl | wrongBlock ↦ refl | noSegment ↦ refl | noEnd ↦ refl | ninthSegment ↦ refl | wrongStorm ↦ refl | tooManyPlaces ↦ refl | notSound ↦ refl | noDraft ↦ refl | allOpen ↦ refl | noSuchSegment ↦ refl | notTaken ↦ refl | takenAlready ↦ refl | twoTaken ↦ refl | segmentFull ↦ refl | onlyPlace ↦ refl | staleDraft ↦ refl | noStep ↦ refl | outputShort ↦ refl | outOfRange ↦ refl | notBelonging ↦ refl ]
+row-back = elim [ wrongLength ↦ refl | wrongText ↦ refl | wrongHeading ↦ refl | wrongIdentifier ↦ refl | wrongTime ↦ refl | wrongBlock ↦ refl | noSegment ↦ refl | noEnd ↦ refl | ninthSegment ↦ refl | wrongStorm ↦ refl | tooManyPlaces ↦ refl | notSound ↦ refl | noDraft ↦ refl | allOpen ↦ refl | noSuchSegment ↦ refl | notTaken ↦ refl | takenAlready ↦ refl | twoTaken ↦ refl | segmentFull ↦ refl | onlyPlace ↦ refl | staleDraft ↦ refl | noStep ↦ refl | outputShort ↦ refl | outOfRange ↦ refl | placeTwice ↦ refl | notBelonging ↦ refl ]
 
 -- no two rows have one number
 pub number-one : (r s : Reason) → numberOf r ≡ numberOf s → r ≡ s
@@ -31,7 +31,7 @@ number-one r s e = sym (row-back r) ∙ ap (rowOf rows) e ∙ row-back s
 
 -- and each is a byte that is not 0
 pub number-byte : (r : Reason) → (leb 1 (numberOf r) && ltb (numberOf r) 256) ≡ true
-number-byte = elim [ wrongLength ↦ refl | wrongText ↦ refl | wrongHeading ↦ refl | wrongIdentifier ↦ refl | wrongTime ↦ refl | wrongBlock ↦ refl | noSegment ↦ refl | noEnd ↦ refl | ninthSegment ↦ refl | wrongStorm ↦ refl | tooManyPlaces ↦ refl | notSound ↦ refl | noDraft ↦ refl | allOpen ↦ refl | noSuchSegment ↦ refl | notTaken ↦ refl | takenAlready ↦ refl | twoTaken ↦ refl | segmentFull ↦ refl | onlyPlace ↦ refl | staleDraft ↦ refl | noStep ↦ refl | outputShort ↦ refl | outOfRange ↦ refl | notBelonging ↦ refl ]
+number-byte = elim [ wrongLength ↦ refl | wrongText ↦ refl | wrongHeading ↦ refl | wrongIdentifier ↦ refl | wrongTime ↦ refl | wrongBlock ↦ refl | noSegment ↦ refl | noEnd ↦ refl | ninthSegment ↦ refl | wrongStorm ↦ refl | tooManyPlaces ↦ refl | notSound ↦ refl | noDraft ↦ refl | allOpen ↦ refl | noSuchSegment ↦ refl | notTaken ↦ refl | takenAlready ↦ refl | twoTaken ↦ refl | segmentFull ↦ refl | onlyPlace ↦ refl | staleDraft ↦ refl | noStep ↦ refl | outputShort ↦ refl | outOfRange ↦ refl | placeTwice ↦ refl | notBelonging ↦ refl ]
 
 -- nor have two refusals one number and place
 pub refusal-one : {A : Type 0} {x : Answer A} (r s : Refusal) → paperRefusal r ≡ x → paperRefusal s ≡ x → r ≡ s

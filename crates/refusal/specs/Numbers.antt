@@ -50,6 +50,8 @@ pub data Reason : Type 0 where
   outputShort : Reason
   -- a place, DD, HH, MM or index handed in out of range
   outOfRange : Reason
+  -- two elements of a block cover one place (document 02, R-3)
+  placeTwice : Reason
   -- the text does not belong to the book (document 02, R-1)
   notBelonging : Reason
 
@@ -78,4 +80,5 @@ numberOf staleDraft = 21
 numberOf noStep = 22
 numberOf outputShort = 23
 numberOf outOfRange = 24
+numberOf placeTwice = 25
 numberOf notBelonging = 27

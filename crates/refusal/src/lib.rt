@@ -47,6 +47,8 @@ pub const OUTPUT_SHORT: usize = 23;
 
 pub const OUT_OF_RANGE: usize = 24;
 
+pub const PLACE_TWICE: usize = 25;
+
 pub const NOT_BELONGING: usize = 27;
 
 pub struct Refusal {

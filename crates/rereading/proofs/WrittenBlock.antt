@@ -20,8 +20,8 @@ use Rattle.calendar.specs.Purge.{isPurge, purgeOf}
 use Rattle.calendar.specs.declared.Stamp.{Stamp}
 use Rattle.calendar.proofs.Laws.{purge-own}
 use Rattle.codes.specs.Places.{capacity, Ascending, isSet}
-use Rattle.codes.specs.Elements.{Element, null, elementsAt, elementsOfLines, purge, wrong}
-use Rattle.codes.specs.Block.{Content, block, insertCovered, readFrom, readBlock, contentAt}
+use Rattle.codes.specs.Elements.{Element, null, elementsAt, elementsFrom, elementsOfLines, purge, wrong}
+use Rattle.codes.specs.Block.{Content, block, insertCovered, readFrom, readBlock, twiceFrom, twiceAt, contentAt}
 use Rattle.codes.specs.Written.{runsOf, spansOf, blockElements, wrapped, inOrder, written}
 use Rattle.codes.proofs.Sets.{set-true}
 use Rattle.codes.proofs.Turns.{read-covers, read-purge}
@@ -29,13 +29,13 @@ use Rattle.reading.specs.Placed.{placedAt}
 use Rattle.writing.specs.Write.{writtenBlock}
 use Rattle.roundtrip.proofs.Split.{crcrlf, endedLines}
 use Rattle.roundtrip.proofs.Runs.{spans-fine, words-spans, Reads, stops, goes}
-use Rattle.roundtrip.proofs.Round.{written-reads}
+use Rattle.roundtrip.proofs.Round.{written-reads, written-once}
 use Rattle.roundtrip.proofs.Fit.{FitLine, short-spans, rendered-fit}
 use Rattle.roundtrip.proofs.RoundTrip.{written-opens}
 use Rattle.blocks.specs.Block.{flat}
 use Rattle.blocks.specs.Content.{isContent}
 use Rattle.sending.specs.Edited.{writtenForms}
-use Rattle.rereading.proofs.WholeLines.{Whole, pieces-joined}
+use Rattle.rereading.proofs.WholeLines.{Whole, pieces-joined, joined-append}
 use Rattle.rereading.proofs.Inert.{InertLine, said-front, front-long}
 use Rattle.rereading.proofs.OldBlock.{pastIn, past-here, past-later}
 use Rattle.rereading.proofs.Fair.{Fair}
@@ -199,13 +199,23 @@ module _ (s : Stamp) (t : isTime s ≡ true) where
     unfolding readBlock writtenLines
     read-there = ap (λ (x : List (List ℕ)). readFrom (length text) none [] (elementsOfLines (linesAt (length front) x))) lines-there ∙ there .reads
 
+    once-there : twiceAt text (length front) ≡ none
+    unfolding twiceAt
+    once-there =
+        let q : drop (length front) text ≡ written ps s ++ inOrder rest =
+        ap (drop (length front)) e
+        ∙ drop-append-seam front (inOrder (writtenLines ps s ++ rest))
+        ∙ joined-append (writtenLines ps s) rest
+        ∙ ap (λ (x : List ℕ). x ++ inOrder rest) (written-joined ps) in
+        ap (λ (x : List ℕ). twiceFrom none [] (elementsFrom (length front) x)) q ∙ written-once (length front) ps (inOrder rest) s up t
+
     written-back : length ps ≤ capacity → purgeOf issue s ≡ some minute
         → ReadAs text issue (length front) (writtenLines ps s ++ rest) (record { purge = minute; places = ps }) (length (written ps s))
     unfolding placedAt contentAt andThen writtenLines
     written-back few given =
         record {
           purge-at = there .purge-at;
-          placed = rw (read-there, given, le-leb (length ps) capacity few);
+          placed = rw (read-there, once-there, given, le-leb (length ps) capacity few);
           past = there .past ∙ ap (λ (x : List ℕ). length front + length x) (written-joined ps);
         }
 

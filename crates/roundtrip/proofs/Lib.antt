@@ -10,3 +10,4 @@ pub mod Opened
 pub mod Prefixes
 pub mod RoundTrip
 pub mod WriteRead
+pub mod Repeats

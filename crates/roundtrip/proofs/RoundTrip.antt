@@ -1,6 +1,6 @@
 -- The laws of reading and writing a block: the round trip of a stamp, what is addressed, what is accepted, how the written form stands in a text. Assumes nothing.
 use Prim.Native.Nat.{ℕ, _≤_}
-use mathlib.Core.Path.{_≡_, refl, sym, ap, _∙_, subst}
+use mathlib.Core.Path.{_≡_, refl, sym, ap, ap₂, _∙_, subst}
 use mathlib.Core.Bool.{true}
 use mathlib.Core.List.{List, [], _∷_, _++_, List·Memᴰ, List·Memᴰ·not-nil}
 use mathlib.Core.Option.{Option, none, some}
@@ -20,14 +20,14 @@ use Rattle.calendar.proofs.Laws.{purge-time}
 use Rattle.calendar.specs.declared.Stamp.{Stamp}
 use Rattle.codes.specs.Places.{Ascending, nil, capacity}
 use Rattle.codes.specs.Elements.{elementsFrom}
-use Rattle.codes.specs.Block.{Read, block, wrongAt, readAt, readBlock, Covered, Content, dated, contentIn, contentAt}
+use Rattle.codes.specs.Block.{Read, block, wrongAt, readAt, readBlock, twiceFrom, twiceAt, Covered, Content, dated, contentIn, contentAt}
 use Rattle.codes.specs.Written.{runsOf, spansOf, blockElements, written}
 use Rattle.roundtrip.specs.Round.{Addressed}
 use Rattle.roundtrip.proofs.Runs.{placesOf, spans-places, spans-fine, words-spans}
 use Rattle.roundtrip.proofs.Fit.{short-spans, rendered-fit}
 use Rattle.roundtrip.proofs.Covered.{Told, told, covered-in, in-covered, told-ascending}
 use Rattle.roundtrip.proofs.Opens.{Opening, spans-open}
-use Rattle.roundtrip.proofs.Round.{read-starts, written-starts, written-reads}
+use Rattle.roundtrip.proofs.Round.{read-starts, written-starts, written-reads, written-once}
 
 -- ---- the round trip
 -- What is written of strictly ascending places and of a DDHHMM in its ranges is read back as just these, wherever it stands and whatever follows it; z is the place of its purge element.
@@ -37,12 +37,13 @@ round-trip stop at ps rest s a t = read-starts stop (written-starts at ps rest s
 -- A segment of at most 120 places is read back from its written block, with the purge minute that its DDHHMM gives under the issue, from any place of a text.
 pub content-round-trip : (front ps rest : List ℕ) (issue t : ℕ) (s : Stamp) → Ascending 0 ps → length ps ≤ capacity → purgeOf issue s ≡ some t
     → contentAt (front ++ (written ps s ++ rest)) issue (length front) ≡ ok (record { purge = t; places = ps })
-unfolding contentAt readBlock
+unfolding contentAt readBlock twiceAt
 content-round-trip front ps rest issue t s a few e =
     let text : List ℕ = front ++ (written ps s ++ rest) in
     let r = round-trip (length text) (length front) ps rest s a (purge-time issue s t e) in
-    ap (λ (x : List ℕ). contentIn issue (length front) (readAt (length text) (length front) x)) (drop-append-seam front (written ps s ++ rest))
-    ∙ ap (contentIn issue (length front)) (r .1)
+    ap (λ (x : List ℕ). contentIn issue (length front) (twiceFrom none [] (elementsFrom (length front) x)) (readAt (length text) (length front) x))
+    (drop-append-seam front (written ps s ++ rest))
+    ∙ ap₂ (contentIn issue (length front)) (written-once (length front) ps rest s a (purge-time issue s t e)) (r .1)
     ∙ rw (e, le-leb (length ps) capacity few)
 
 -- ---- "A place is addressed exactly if some element covers it"
@@ -56,32 +57,34 @@ covered stop at text ps s z e =
     }
 
 -- ---- the content of a segment that is accepted
--- It was read from a block, is strictly ascending and of at most 120 places, and its purge minute is what the block's DDHHMM gives.
+-- It was read from a block in which no place is covered twice, is strictly ascending and of at most 120 places, and its purge minute is what the block's DDHHMM gives.
 pub record Accepted (text : List ℕ) (issue start : ℕ) (c : Content) : Type 0 where
   pub stamp : Stamp
   pub purge-at : ℕ
   pub read : readBlock text start ≡ block (c .places) stamp purge-at
+  pub once : twiceAt text start ≡ none
   pub ascending : Ascending 0 (c .places)
   pub few : length (c .places) ≤ capacity
   pub gives : purgeOf issue stamp ≡ some (c .purge)
 
 pub accepted : (text : List ℕ) (issue start : ℕ) (c : Content) → contentAt text issue start ≡ ok c → Accepted text issue start c
 unfolding contentAt readBlock
-accepted text issue start c e = go (readBlock text start) refl e
+accepted text issue start c e = go (twiceAt text start) refl (readBlock text start) refl e
   where
-    date : (ps : List ℕ) (s : Stamp) (z : ℕ) (o : Option ℕ) → readBlock text start ≡ block ps s z → Ascending 0 ps → purgeOf issue s ≡ o → dated start z ps o ≡ ok c
-        → Accepted text issue start c
-    date ps s z none q a g e = apart cc
-    date ps s z (some t) q a g e =
+    date : twiceAt text start ≡ none → (ps : List ℕ) (s : Stamp) (z : ℕ) (o : Option ℕ) → readBlock text start ≡ block ps s z → Ascending 0 ps → purgeOf issue s ≡ o
+        → dated start z ps o ≡ ok c → Accepted text issue start c
+    date w ps s z none q a g e = apart cc
+    date w ps s z (some t) q a g e =
         by (leb (length ps) capacity)
         (λ k. let f : ok (record { purge = t; places = ps }) ≡ ok c = rw k at e in
         let same : record { purge = t; places = ps } ≡ c = cc in
-        subst (Accepted text issue start) same (record { stamp = s; purge-at = z; read = q; ascending = a; few = leb-true (length ps) capacity k; gives = g }))
+        subst (Accepted text issue start) same (record { stamp = s; purge-at = z; read = q; once = w; ascending = a; few = leb-true (length ps) capacity k; gives = g }))
         λ k. let f : refused tooManyPlaces start ≡ ok c = rw k at e in apart cc
 
-    go : (r : Read) → readBlock text start ≡ r → contentIn issue start r ≡ ok c → Accepted text issue start c
-    go (wrongAt place) q e = apart cc
-    go (block ps s z) q e = date ps s z (purgeOf issue s) q (covered (length text) start (drop start text) ps s z q .ascending) refl e
+    go : (o : Option ℕ) → twiceAt text start ≡ o → (r : Read) → readBlock text start ≡ r → contentIn issue start o r ≡ ok c → Accepted text issue start c
+    go o w (wrongAt place) q e = apart cc
+    go (some y) w (block ps s z) q e = apart cc
+    go none w (block ps s z) q e = date w ps s z (purgeOf issue s) q (covered (length text) start (drop start text) ps s z q .ascending) refl e
 
 -- ---- the written block in a product
 -- What is written of one place or more opens a block, and so does its first line.

@@ -2,7 +2,7 @@
 use Prim.Native.Nat.{ℕ, zero, suc, _+_, _-_, _*_, _/_, _%_, _≤_, _<_}
 use native.Mathlib.Omega.{arith}
 use native.Mathlib.Nat.{add-zero}
-use mathlib.Core.Path.{_≡_, refl, sym, ap, _∙_, subst₂}
+use mathlib.Core.Path.{_≡_, refl, sym, ap, _∙_, subst, subst₂}
 use mathlib.Core.Logic.{_≢_}
 use mathlib.Core.Bool.{true, _&&_, not}
 use mathlib.Core.List.{List, [], _∷_, _++_, append-assoc, append-nil}
@@ -14,7 +14,7 @@ use Rattle.laws.proofs.Lists.{all-append, all-map}
 use Rattle.laws.specs.Lists.{All, all-nil, all-cons}
 use Rattle.calendar.specs.Calendar.{isTime}
 use Rattle.calendar.specs.declared.Stamp.{Stamp}
-use Rattle.codes.specs.Places.{placesEnd, Ascending, nil, cons, upward}
+use Rattle.codes.specs.Places.{placesEnd, placeOf, Ascending, nil, cons, upward}
 use Rattle.codes.specs.Elements.{covers, purge, said}
 use Rattle.codes.specs.Block.{insertRun, insertCovered}
 use Rattle.codes.specs.Written.{Run, joins, join, runsOf, single, parted, spansOf, elementsOf, purgeElement}
@@ -169,3 +169,24 @@ module _ (s : Stamp) where
       (append-assoc got up (placesOf rs))
       same
       (reads-spans t (some (r .first / 1000)) (got ++ up) fs (above .1) (under-upward (suc (r .more)) (r .first) v)))
+
+-- ---- and each element covers places above those before it: from a last prefix and a bound, under which those before it are
+pub data Rising : Option ℕ → ℕ → List (List ℕ) → Type 0 where
+  rising-end : {l : Option ℕ} {b : ℕ} {e : List ℕ} (s : Stamp) → said l e ≡ purge s → Rising l b (e ∷ [])
+  rising-on : {l : Option ℕ} {b : ℕ} {e : List ℕ} {es : List (List ℕ)} (p n k : ℕ) → said l e ≡ covers p n k → b ≤ placeOf p n → n ≤ k
+      → Rising (some p) (suc (placeOf p k)) es → Rising l b (e ∷ es)
+
+pub rising-nothing : {l : Option ℕ} {b : ℕ} → Rising l b [] → ⊥
+rising-nothing r = elim r [ ]
+
+pub rising-spans : (s : Stamp) → isTime s ≡ true → (last : Option ℕ) {b : ℕ} {rs : List Run} → All Fine rs → Ascending b (placesOf rs)
+    → Rising last b (elementsOf last rs ++ (purgeElement s ∷ []))
+unfolding placesOf elementsOf
+rising-spans s t last all-nil a = rising-end s (said-purge last s t)
+rising-spans s t last {b} (all-cons {x = r} {xs = rs} f fs) a =
+    let above = run-above (r .more) {b = b} (r .first) {qs = placesOf rs} a in
+    let n : ℕ = r .first % 1000 in
+    let p : ℕ = r .first / 1000 in
+    let e : r .first + suc (r .more) ≡ suc (placeOf p (n + r .more)) = omega arith in
+    rising-on {b = b} p n (n + r .more) (said-element last r f) (omega (arith, above .0)) (omega arith)
+    (rising-spans s t (some p) fs (subst (λ (x : ℕ). Ascending x (placesOf rs)) e (above .1)))

@@ -1,15 +1,15 @@
 -- Document 01: what reading and writing a block are to each other, and what the elements of a written block spell. A reader must believe these notions to believe roundtrip's laws.
-use Prim.Native.Nat.{ℕ, _/_}
+use Prim.Native.Nat.{ℕ, _/_, _≤_}
 use mathlib.Core.Path.{_≡_}
 use mathlib.Core.Bool.{true, cond}
 use mathlib.Core.List.{List, [], _∷_, _++_, List·Memᴰ}
-use mathlib.Core.Option.{none}
+use mathlib.Core.Option.{Option, none, some}
 use lib.ListN.{length, drop}
 use Rattle.refusal.specs.Answer.{ok}
 use Rattle.lines.specs.Bytes.{begins}
 use Rattle.lines.specs.Lines.{prefixForm, opens, Line, linesFrom}
-use Rattle.codes.specs.Places.{prefixOf, Ascending}
-use Rattle.codes.specs.Elements.{elementsFrom}
+use Rattle.codes.specs.Places.{prefixOf, placeOf, Ascending}
+use Rattle.codes.specs.Elements.{Element, elementsFrom, said, covers}
 use Rattle.codes.specs.Block.{Covered, Content, contentAt}
 use Rattle.writing.specs.Write.{writtenBlock}
 
@@ -26,6 +26,21 @@ pub record Addressed (ps : List ℕ) (at : ℕ) (text : List ℕ) : Type 0 where
   pub ascending : Ascending 0 ps
   pub only : (q : ℕ) → List·Memᴰ q ps → Covered q none (elementsFrom at text)
   pub every : (q : ℕ) → Covered q none (elementsFrom at text) → List·Memᴰ q ps
+
+-- ---- "A block in which two elements cover one place is refused, at the first element that covers a place already covered" (document 02, R-3)
+-- the element at the place y covers q
+pub data CoveredAt (q y : ℕ) : Option ℕ → List Element → Type 0 where
+  this : {last : Option ℕ} {e : Element} {es : List Element} (p n m : ℕ) → said last (e .bytes) ≡ covers p n m
+      → placeOf p n ≤ q → q ≤ placeOf p m → e .at ≡ y → CoveredAt q y last (e ∷ es)
+  behind : {last : Option ℕ} {e : Element} {es : List Element} (p n m : ℕ) → said last (e .bytes) ≡ covers p n m
+      → CoveredAt q y (some p) es → CoveredAt q y last (e ∷ es)
+
+-- an element covers q, and so does a later one, at the place y
+pub data CoveredTwice (q y : ℕ) : Option ℕ → List Element → Type 0 where
+  both : {last : Option ℕ} {e : Element} {es : List Element} (p n m : ℕ) → said last (e .bytes) ≡ covers p n m
+      → placeOf p n ≤ q → q ≤ placeOf p m → CoveredAt q y (some p) es → CoveredTwice q y last (e ∷ es)
+  after : {last : Option ℕ} {e : Element} {es : List Element} (p n m : ℕ) → said last (e .bytes) ≡ covers p n m
+      → CoveredTwice q y (some p) es → CoveredTwice q y last (e ∷ es)
 
 -- ---- "A line opens a block": the text's line from this place on does
 pub record Opens (text : List ℕ) (at : ℕ) : Type 0 where

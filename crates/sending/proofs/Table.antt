@@ -6,7 +6,7 @@ use Rattle.lines.specs.Lines.{pieces, lineEnd, bodyOf, linesAt, blank, isEnd, o
 use Rattle.calendar.specs.Calendar.{leap, monthLength, nextMonth, afterJanuary, daysIn, isIssueMonth, startOf, isTime, minuteIn, isMonth, minuteOf, monthFrom, monthOf, dateOf}
 use Rattle.calendar.specs.Purge.{monthsAround, minutesWith, firstOf, purgeIn, purgeOf}
 use Rattle.codes.specs.Elements.{elementsAt, elementsOfLines, numbers, time, short, said}
-use Rattle.codes.specs.Block.{insert, insertRun, readFrom, readBlock, contentAt}
+use Rattle.codes.specs.Block.{insert, insertRun, readFrom, readBlock, coveredBefore, twiceFrom, twiceAt, contentAt}
 use Rattle.codes.specs.Written.{join, runsOf, spansOf, elementOf, elementsOf, purgeElement, blockElements, wrapFrom, inOrder, rendered, written}
 use Rattle.blocks.specs.Block.{sameList}
 use Rattle.writing.specs.Write.{writtenBlock}
@@ -23,5 +23,5 @@ use Rattle.sending.specs.Edited.{editedFrom, writtenForms}
 use Rattle.sending.specs.Examples.{allEdited, editedTable}
 
 pub edited-examples : T (allEdited editedTable)
-unfolding sameList begins exactly pieces lineEnd bodyOf linesAt leap monthLength nextMonth afterJanuary daysIn startOf isTime minuteIn isMonth minuteOf monthFrom monthOf dateOf monthsAround minutesWith firstOf purgeIn purgeOf elementsAt elementsOfLines numbers time short said insert insertRun readFrom readBlock contentAt placedAt pastPurge join runsOf spansOf elementOf elementsOf purgeElement blockElements wrapFrom inOrder rendered written ascends isSet writtenBlock blank isEnd opens badByte longLine lastEnds unended least textFault checkText isIssueMonth andThen isHeading headingOf isIdentifier isOffice namesStorm basinOf classOf stormOf fromFirst upToFirst stormIn segmentsFrom firstLines segmentsOf isLength readBulletin editedFrom writtenForms
+unfolding sameList begins exactly pieces lineEnd bodyOf linesAt leap monthLength nextMonth afterJanuary daysIn startOf isTime minuteIn isMonth minuteOf monthFrom monthOf dateOf monthsAround minutesWith firstOf purgeIn purgeOf elementsAt elementsOfLines numbers time short said insert insertRun readFrom readBlock coveredBefore twiceFrom twiceAt contentAt placedAt pastPurge join runsOf spansOf elementOf elementsOf purgeElement blockElements wrapFrom inOrder rendered written ascends isSet writtenBlock blank isEnd opens badByte longLine lastEnds unended least textFault checkText isIssueMonth andThen isHeading headingOf isIdentifier isOffice namesStorm basinOf classOf stormOf fromFirst upToFirst stormIn segmentsFrom firstLines segmentsOf isLength readBulletin editedFrom writtenForms
 edited-examples = tt

@@ -5,11 +5,17 @@ use native.Mathlib.Numerals.{add-one}
 use native.Mathlib.Nat.{zero-add}
 use mathlib.Core.Path.{_≡_, refl, sym, ap, _∙_}
 use mathlib.Core.List.{List, [], _∷_, _++_, append-assoc}
+use mathlib.Core.Bool.{cond}
 use mathlib.Core.Option.{Option, some}
 use lib.ListN.{length, length-append}
+use lib.Dec.{eqb}
 use borrow.Author.Tests.{le-leb, lt-leb}
 use Rattle.lines.specs.Bytes.{bytes}
-use Rattle.codes.specs.Written.{parted, elementOf, elementsOf, writtenMost}
+use Rattle.codes.specs.Places.{prefixBytes}
+use Rattle.codes.specs.Written.{newPrefix, parted, elementOf, elementsOf, writtenMost}
+use Rattle.codes.specs.Cursor.{paperLast}
+use Rattle.codes.specs.declared.Last.{Last}
+use Rattle.codes.specs.declared.Last.the-variants.{Prefix}
 use Rattle.writing.specs.Ink.{inkFrom}
 use Rattle.writing.proofs.Ink.{ink-on, ink-next}
 use Rattle.writing.proofs.Spelling.{stored-none, stored-on}
@@ -75,7 +81,13 @@ module _ (a : List ℕ) (last : Option ℕ) (lo more : ℕ) (p : Pen) where
   unfolding elementsOf
   flush-one h b r d = rw (parted-one lo more h) d
 
-  pub flush-two : more ≡ 1 → (b c : List ℕ) (q r : Pen) → Inked a b p q (elementOf last (runFrom lo 0) ∷ [])
-      → Inked b c q r (elementOf (some (lo / 1000)) (runFrom (lo + 1) 0) ∷ []) → Inked a c p r (elementsOf last (parted lo more))
+  pub flush-two : more ≡ 1 → (b c : List ℕ) (q r : Pen) → Inked a b p q (elementOf last (runFrom lo 0) ∷ []) → (u : ℕ) → u ≡ lo / 1000
+      → Inked b c q r (elementOf (some u) (runFrom (lo + 1) 0) ∷ []) → Inked a c p r (elementsOf last (parted lo more))
   unfolding elementsOf
-  flush-two h b c q r d g = rw (h, ← add-one lo) (inked-on d g)
+  flush-two h b c q r d u eu g =
+      let g′ : Inked b c q r (elementOf (some (lo / 1000)) (runFrom (lo + 1) 0) ∷ []) = rw eu at g in
+      rw (h, ← add-one lo) (inked-on d g′)
+
+-- whether a prefix is the last one
+pub last-told : (l : Last) (q p w : ℕ) → l ≡ Prefix q → w ≡ p → newPrefix (paperLast l) p ≡ cond (eqb q w) [] (prefixBytes p)
+last-told l q p w e f = rw (e, f)

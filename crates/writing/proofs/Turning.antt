@@ -39,17 +39,17 @@ module _ (a : List ℕ) (s : State) (fine : FineState s) (q : ℕ) (h : q < plac
         few = omega arith;
       }
 
-  pub turn-gap : t ≡ false → (b : List ℕ) (r : Pen) → Inked a b (s .pen) r (ofRun s)
-      → Turned a b s (record { pen = r; last = last.Prefix (s .lo / 1000); lo = q; more = 0 }) q
+  pub turn-gap : t ≡ false → (b : List ℕ) (r : Pen) → Inked a b (s .pen) r (ofRun s) → (u : ℕ) → u ≡ s .lo / 1000
+      → Turned a b s (record { pen = r; last = last.Prefix u; lo = q; more = 0 }) q
   unfolding upward
-  turn-gap k b r d =
-      record {
+  turn-gap k b r d u eu =
+      rw eu (record {
         done = ofRun s;
         inked = d;
         keeps = λ qs. elements-close (paperLast (s .last)) (fine .joined) (q ∷ qs) (at-gap (sym e ∙ k));
         fine = record { joined = open-one; below = omega arith; low = d .low };
         few = omega (arith, parted-few (paperLast (s .last)) (s .lo) (s .more));
-      }
+      })
 
 module _ (a c : List ℕ) (s : State) (r : Pen) (stamp : Stamp) (fine : FineState s) where
   -- where no place follows, the run and the purge are the last elements

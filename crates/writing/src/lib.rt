@@ -75,7 +75,7 @@ fn is_last(last: Last, p: u32) -> bool
     ensures { λ r. ⌜ newPrefix (paperLast last) p ≡ cond r [] (prefixBytes p) ⌝ }
 {
     match last {
-        Last::Prefix(q) => q == p,
+        Last::Prefix(q) => q == codes::wide(p),
         Last::Nothing => false,
     }
 }
@@ -273,7 +273,8 @@ fn flush(out: &mut [u8], pen: Pen, last: Last, lo: u32, more: u32) -> Pen
 {
     if more == 1 {
         let next = add(&mut *out, pen, last, lo, 0);
-        return add(&mut *out, next, Last::Prefix(lo / 1000), lo + 1, 0);
+        let under = codes::wide(lo / 1000);
+        return add(&mut *out, next, Last::Prefix(under), lo + 1, 0);
     }
     add(&mut *out, pen, last, lo, more)
 }
@@ -296,9 +297,10 @@ fn turn(out: &mut [u8], s: State, q: u32) -> State
         };
     }
     let next = flush(&mut *out, pen, last, lo, more);
+    let under = codes::wide(lo / 1000);
     State {
         pen: next,
-        last: Last::Prefix(lo / 1000),
+        last: Last::Prefix(under),
         lo: q,
         more: 0,
     }

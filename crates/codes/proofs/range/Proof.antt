@@ -1,4 +1,4 @@
-use Rattle.codes.proofs.Forms.{range-start, range-end, range-covers, range-order}
+use Rattle.codes.proofs.Forms.{first-room, last-room, range-covers, range-order}
 use borrow.Author.Needs.{needs}
 use Rattle.codes.proofs.range.Statement.{statement}
 use Rattle.codes.proofs.range.Tie as tie
@@ -7,13 +7,9 @@ pub range-spec : {M : Type 1} → statement M
 range-spec =
     tie.close
     (tie.spec
-    (λ c κs. search needs)
-    (λ c κs. search needs)
-    (λ c κs. search needs)
-    (λ c κs. search needs)
-    (λ c κs. search needs)
-    (λ c κs. search needs)
+    (λ c κs. search (first-room, needs))
+    (λ c. search needs)
+    (λ c κs. search (last-room, needs))
+    (λ c. search needs)
     (λ c. search (range-covers, needs))
-    (λ c. search (range-order, needs))
-    (λ c. search (range-end, needs))
-    (λ c. search (range-start, needs)))
+    (λ c. search (range-order, needs)))

@@ -1,4 +1,4 @@
-use Rattle.codes.proofs.Steps.{step-none, step-covers, step-after, step-last, step-wrong}
+use Rattle.codes.proofs.Steps.{step-none, step-purge, step-covers}
 use borrow.Author.Needs.{needs}
 use Rattle.codes.proofs.Cursor.step.Statement.{statement}
 use Rattle.codes.proofs.Cursor.step.Tie as tie
@@ -11,14 +11,7 @@ step-spec =
     (λ c κs. search needs)
     (λ c. search needs)
     (λ c. search needs)
-    (λ c. search needs)
     (λ c κs. search needs)
-    (λ c. search needs)
+    (λ c. search (step-purge, needs))
     (λ c κs. search needs)
-    (λ c. search needs)
-    (λ c κs. search needs)
-    (λ c. search needs)
-    (λ c. search (step-covers, needs))
-    (λ c. search (step-last, needs))
-    (λ c. search (step-after, needs))
-    (λ c. search (step-wrong, needs)))
+    (λ c. search (step-covers, needs)))
