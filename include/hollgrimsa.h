@@ -62,6 +62,7 @@ enum hollgrimsa_refusal {
     HOLLGRIMSA_NO_STEP = 22,          /* no step to undo */
     HOLLGRIMSA_OUTPUT_SHORT = 23,     /* output shorter than what is to be written */
     HOLLGRIMSA_OUT_OF_RANGE = 24,     /* a place, DD, HH, MM or index handed in is out of range */
+    HOLLGRIMSA_PLACE_TWICE = 25,      /* two elements of a block cover one place: the first that covers a place already covered */
     HOLLGRIMSA_NOT_BELONGING = 27     /* the text does not belong to the book */
 };
 
@@ -142,7 +143,7 @@ static inline unsigned hollgrimsa_storm_year(uint64_t answer) {
 
 /* ---- the reader
  * Each call reads the whole text under the year and month of its issue. Refusals, in this order: 1 (text); 5 (year, month);
- * 2; 3; 4; 5 (issue day); 10; 6 (line 3) or 7; then segment by segment 9, 6, 5, 11, 8. */
+ * 2; 3; 4; 5 (issue day); 10; 6 (line 3) or 7; then segment by segment 9, 6, 25, 5, 11, 8. */
 
 /* The issue: a minute, counted from 1970-01-01 0000 UTC. */
 uint64_t hollgrimsa_issue(const uint8_t *text, size_t text_length, uint64_t year, uint64_t month);

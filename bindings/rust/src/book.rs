@@ -44,7 +44,7 @@ impl Book {
     /// no drafts and no steps.
     ///
     /// # Errors
-    /// The reader's refusals, 1 to 11: see [`calls::issue`].
+    /// The reader's refusals, 1 to 11 and 25: see [`calls::issue`].
     pub fn make(text: &[u8], year: u64, month: u64) -> Result<Self, Refusal> {
         let mut bytes = Box::new([0; BOOK_LENGTH]);
         calls::make(&mut *bytes, text, year, month)?;
@@ -171,11 +171,11 @@ impl Book {
     /// See [`edited`](Book::edited), which brings its own output.
     ///
     /// # Errors
-    /// The reader's refusals, 1 to 11, of the text under the year and month of
-    /// the book's issue; 27 where the text does not belong to the book; 23
-    /// where the output is shorter than the edited bulletin. [`EDITED_MOST`]
-    /// bytes are always enough, and so are `text.len()` and [`BLOCK_MOST`] for
-    /// each segment.
+    /// The reader's refusals, 1 to 11 and 25, of the text under the year and
+    /// month of the book's issue; 27 where the text does not belong to the
+    /// book; 23 where the output is shorter than the edited bulletin.
+    /// [`EDITED_MOST`] bytes are always enough, and so are `text.len()` and
+    /// [`BLOCK_MOST`] for each segment.
     pub fn write_edited(&self, text: &[u8], out: &mut [u8]) -> Result<usize, Refusal> {
         calls::write_edited(text, self.as_bytes(), out)
     }
@@ -191,8 +191,9 @@ impl Book {
     /// [`TEXT_MOST`](crate::TEXT_MOST) bytes.
     ///
     /// # Errors
-    /// The reader's refusals, 1 to 11, of the text under the year and month of
-    /// the book's issue; 27 where the text does not belong to the book.
+    /// The reader's refusals, 1 to 11 and 25, of the text under the year and
+    /// month of the book's issue; 27 where the text does not belong to the
+    /// book.
     ///
     /// ```
     /// use hollgrimsa::{Book, Reason};

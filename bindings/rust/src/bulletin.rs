@@ -43,7 +43,7 @@ impl<'a> Bulletin<'a> {
     /// Reads a text under the year and month of its issue.
     ///
     /// # Errors
-    /// The reader's refusals, 1 to 11: see [`calls::issue`].
+    /// The reader's refusals, 1 to 11 and 25: see [`calls::issue`].
     pub fn read(text: &'a [u8], year: u64, month: u64) -> Result<Self, Refusal> {
         let start = calls::identifier(text, year, month)?;
         Ok(Bulletin {

@@ -30,7 +30,7 @@ use crate::{answer, sys, Changed, Refusal, Storm};
 /// The issue of a bulletin: a minute, counted from 1970-01-01 0000 UTC.
 ///
 /// Refusals of the reader: 1 (text); 5 (year, month); 2; 3; 4; 5 (issue day);
-/// 10; 6 (line 3) or 7; then segment by segment 9, 6, 5, 11, 8.
+/// 10; 6 (line 3) or 7; then segment by segment 9, 6, 25, 5, 11, 8.
 pub fn issue(text: &[u8], year: u64, month: u64) -> Result<u32, Refusal> {
     answer::narrow(unsafe { sys::hollgrimsa_issue(text.as_ptr(), text.len(), year, month) })
 }

@@ -16,7 +16,7 @@
 //!
 //! fn main() -> Result<(), Refusal> {
 //!     let text = b"FPUS51 KXYZ 240822\nZFPXYZ\n\nZONE FORECAST\n\n\
-//!         MDC005-003-006>007-005-242100-\nTEXT ONE\n$$\nVAZ053-250000-\nTEXT TWO\n$$\n";
+//!         MDC005-003-006>007-242100-\nTEXT ONE\n$$\nVAZ053-250000-\nTEXT TWO\n$$\n";
 //!     let mut book = Book::make(text, 2002, 4)?;
 //!     let mut draft = book.open()?;
 //!     draft.take(2)?;

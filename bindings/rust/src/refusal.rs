@@ -111,6 +111,9 @@ reasons! {
     OutputShort = 23: "the output is shorter than what is to be written",
     /// 24: a place, DD, HH, MM or index handed in is out of range.
     OutOfRange = 24: "a place, day, hour, minute or index is out of range",
+    /// 25: two elements of a block cover one place. The offset is the start of
+    /// the first element that covers a place already covered.
+    PlaceTwice = 25: "two elements of a place code block cover one place",
     /// 27: the text does not belong to the book: its issue or its number of
     /// segments is another.
     NotBelonging = 27: "the text does not belong to the book",
@@ -169,7 +172,8 @@ impl Refusal {
             | Reason::NoEnd
             | Reason::NinthSegment
             | Reason::WrongStorm
-            | Reason::TooManyPlaces => Some(self.place),
+            | Reason::TooManyPlaces
+            | Reason::PlaceTwice => Some(self.place),
             // A year, a month, an issue's day or a purge that was handed in
             // stands nowhere in a text; a block's purge never at its front.
             Reason::WrongTime if self.place != 0 => Some(self.place),

@@ -5,7 +5,7 @@ mod plain;
 use hollgrimsa::{Book, Bulletin, Draft, Reason, Refusal, BLOCK_MOST, BOOK_LENGTH, EDITED_MOST};
 
 const TEXT: &[u8] = b"FPUS51 KXYZ 240822 RRA\r\r\nZFPXYZ\r\r\n\r\r\nNWS X EP912004\r\r\n\r\r\n\
-    MDC005-003-006>007-005-242100-\r\r\nTEXT ONE\r\r\n$$\r\r\n\
+    MDC005-003-006>007-242100-\r\r\nTEXT ONE\r\r\n$$\r\r\n\
     VAZ053-250000-\r\r\nTEXT TWO\r\r\n$$\r\r\n";
 
 fn book() -> Book {
@@ -129,7 +129,7 @@ fn the_edited_bulletin_has_what_was_committed() {
     let edited = book.edited(TEXT).unwrap();
 
     let shown = |bytes: &[u8]| String::from_utf8(bytes.to_vec()).unwrap();
-    let written = shown(TEXT).replace("MDC005-003-006>007-005-", "MDC003-005>007-");
+    let written = shown(TEXT).replace("MDC005-003-006>007-", "MDC003-005>007-");
     assert_eq!(shown(&unedited), written);
     assert_eq!(shown(&edited), written.replace("VAZ053-", "VAZ053-054-"));
 
@@ -170,6 +170,15 @@ fn a_text_of_another_book_is_not_edited() {
     assert_eq!(refusal.reason, Reason::WrongText);
     assert_eq!(refusal.offset(), Some(TEXT.len() - 3));
     assert_eq!(reason(book.edited(b"")), Reason::WrongLength);
+}
+
+#[test]
+fn a_place_named_twice_is_refused_where_it_stands() {
+    let text = String::from_utf8(TEXT.to_vec()).unwrap();
+    let text = text.replace("006>007-", "006>007-005-");
+    let refusal = Book::make(text.as_bytes(), 2002, 4).unwrap_err();
+    assert_eq!(refusal.reason, Reason::PlaceTwice);
+    assert_eq!(refusal.offset(), text.find("005-242100-"));
 }
 
 #[test]

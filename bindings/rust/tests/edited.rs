@@ -23,7 +23,7 @@ const STEPS: usize = 24;
 const SEGMENTS: Range<usize> = 512..9 * 512;
 
 /// What the call can be refused with.
-const REFUSALS: [usize; 14] = [1, 2, 3, 4, 5, 6, 7, 8, 9, 10, 11, 12, 23, 27];
+const REFUSALS: [usize; 15] = [1, 2, 3, 4, 5, 6, 7, 8, 9, 10, 11, 12, 23, 25, 27];
 
 /// A right text, and a book that was made of it and worked on.
 struct Case {

@@ -12,7 +12,7 @@ use sides::{Core, Guarded, Plain, Reader, Tally};
 const BOOK: usize = hollgrimsa::BOOK_LENGTH;
 
 /// What every refusal of reading is numbered; 15 is a view's.
-const READING: [usize; 12] = [1, 2, 3, 4, 5, 6, 7, 8, 9, 10, 11, 15];
+const READING: [usize; 13] = [1, 2, 3, 4, 5, 6, 7, 8, 9, 10, 11, 15, 25];
 
 #[test]
 fn bulletins_good_and_damaged() {
@@ -31,6 +31,27 @@ fn bulletins_good_and_damaged() {
         compare(&text, lent, &mut tally);
     }
     tally.assert_seen(name, READING);
+}
+
+#[test]
+fn crowded_blocks() {
+    let name = "crowded blocks";
+    let mut rng = Rng::announced(name, 0x5EED_0006);
+    let mut tally = Tally::new();
+    for _ in 0..3_000 {
+        let mut text = generate::crowded_text(&mut rng);
+        let mut lent = generate::lent(&mut rng);
+        if rng.once_in(4) {
+            // Purges of the 29th and, before 2300, of the 30th have no minute.
+            text[12..18].copy_from_slice(b"312300");
+            lent = (2003, 1);
+        }
+        if rng.once_in(8) {
+            generate::damage(&mut rng, &mut text);
+        }
+        compare(&text, lent, &mut tally);
+    }
+    tally.assert_seen(name, [0, 5, 6, 8, 11, 25]);
 }
 
 #[test]

@@ -1,4 +1,4 @@
-//! Every refusal number, 1 to 24 and 27, with its place: bad input through the
+//! Every refusal number, 1 to 25 and 27, with its place: bad input through the
 //! C interface, and the same from the plain implementation.
 
 mod plain;
@@ -16,10 +16,11 @@ const SEGMENT: &str = "MDC001-242100-\n$$\n";
 fn every_number_is_seen() {
     let mut tally = Tally::new();
     refuse_texts(&mut tally);
+    refuse_places_twice(&mut tally);
     refuse_books(&mut tally);
     refuse_calls(&mut tally);
     refuse_edited(&mut tally);
-    tally.assert_seen("every refusal", (1..=24).chain([27]));
+    tally.assert_seen("every refusal", (1..=25).chain([27]));
 }
 
 /// Make refuses this text, in April 2002, with this number and place, and so
@@ -64,10 +65,88 @@ fn refuse_texts(tally: &mut Tally) {
     for (text, number, place) in cases {
         refuse_text(&text, number, place, tally);
     }
-    let late = b"FPUS51 KXYZ 311200\nZFPXYZ\nMDC001-301159-\n$$\n";
-    let answer = Core.head(late, 2003, 1);
-    assert_eq!(answer, Err((5, 33)));
-    assert_eq!(answer, Plain.head(late, 2003, 1));
+}
+
+/// Blocks in which two elements cover one place, under [`HEAD`]. A wrong element
+/// goes before that wherever it stands, but nothing else that is wrong in the
+/// segment.
+const PLACES_TWICE: [(&str, usize, usize); 26] = [
+    ("MDC001-001-242100-\n$$\n", 25, 33),
+    ("MDC005-003-006>007-005-242100-\n$$\n", 25, 45),
+    ("MDC005>007-006-242100-\n$$\n", 25, 37),
+    ("MDC005>007-007-242100-\n$$\n", 25, 37),
+    ("MDC005>007-007>009-242100-\n$$\n", 25, 37),
+    ("MDC005>007-003>005-242100-\n$$\n", 25, 37),
+    ("MDC005-001>005-242100-\n$$\n", 25, 33),
+    ("MDC005-001>009-242100-\n$$\n", 25, 33),
+    ("MDCALL-000-242100-\n$$\n", 25, 33),
+    ("MDC000-VAZ001-MDCALL-242100-\n$$\n", 25, 40),
+    ("MDC001-DCC001-MDC001-242100-\n$$\n", 25, 40),
+    ("MDC001-MDC001-242100-\n$$\n", 25, 33),
+    ("MDC001-\n001-242100-\n$$\n", 25, 34),
+    ("MDC001-\r\r\nMDC001-\r\n242100-\n$$\n", 25, 36),
+    // The first of two.
+    ("MDC001-002-002-001-242100-\n$$\n", 25, 37),
+    // Beyond 120 places.
+    ("MDC001>250-001-242100-\n$$\n", 25, 37),
+    ("MDC001>119-VAZ001-002-MDC001-242100-\n$$\n", 25, 48),
+    ("MDC001>119-VAZ001-002-002-242100-\n$$\n", 25, 48),
+    ("MDC001>250-AAC001>999-ZZZ999-MDC250-242100-\n$$\n", 25, 55),
+    ("MDC001>250-AAC001>999-ZZZ999-998>999-242100-\n$$\n", 25, 55),
+    ("MDC001-242100-\n$$\nMDC001-001-242100-\n$$\n", 25, 51),
+    ("MDC001-001-242100-\n", 25, 33),
+    // A wrong element behind it.
+    ("MDC001-001-X-242100-\n$$\n", 6, 37),
+    ("MDC001-001-242100-X\n$$\n", 6, 44),
+    ("MDC001-001-\n", 6, 38),
+    ("MDC001>250-001-242100\n$$\n", 6, 41),
+];
+
+fn refuse_places_twice(tally: &mut Tally) {
+    for (block, number, place) in PLACES_TWICE {
+        refuse_text(&format!("{HEAD}{block}"), number, place, tally);
+    }
+    let ninth = format!("{HEAD}{}MDC001-001-242100-\n$$\n", SEGMENT.repeat(8));
+    refuse_text(&ninth, 9, 170, tally);
+}
+
+/// A purge without a minute is asked for behind a place named twice, and
+/// before the number of places.
+#[test]
+fn a_purge_without_a_minute_in_a_block() {
+    for (block, number, place) in [
+        ("MDC001-301159-\n$$\n", 5, 33),
+        ("MDC001>121-301159-\n$$\n", 5, 37),
+        ("MDC001-001-301159-\n$$\n", 25, 33),
+        ("MDC001>121-121-301159-\n$$\n", 25, 37),
+        ("MDC001-001-X-301159-\n$$\n", 6, 37),
+    ] {
+        let text = format!("FPUS51 KXYZ 311200\nZFPXYZ\n{block}");
+        let answer = Core.head(text.as_bytes(), 2003, 1);
+        assert_eq!(answer, Err((number, place)), "{text:?}");
+        assert_eq!(answer, Plain.head(text.as_bytes(), 2003, 1), "{text:?}");
+    }
+}
+
+/// What comes near to naming a place twice: the same place in two segments,
+/// the same number under two prefixes, neighbours.
+#[test]
+fn places_named_once() {
+    for (block, count) in [
+        ("MDC001-242100-\n$$\nMDC001-242100-\n$$\n", 1),
+        ("MDC001-DCC001-MDZ001-242100-\n$$\n", 3),
+        ("MDC001-000-242100-\n$$\n", 2),
+        ("MDC001>120-242100-\n$$\nMDCALL-120-242100-\n$$\n", 120),
+        ("MDC004>006-007>009-001>003-242100-\n$$\n", 9),
+        ("MDCALL-999-MDZALL-242100-\n$$\n", 3),
+        ("MDC002>060-062>120-061-001-242100-\n$$\n", 120),
+    ] {
+        let text = format!("{HEAD}{block}");
+        let segment = Core.segment(text.as_bytes(), 2002, 4, 1);
+        let right = Plain.segment(text.as_bytes(), 2002, 4, 1);
+        assert_eq!(segment, right, "{text:?}");
+        assert_eq!(segment.map(|segment| segment.count), Ok(count), "{text:?}");
+    }
 }
 
 /// A bulletin of three segments, the second with 120 places.

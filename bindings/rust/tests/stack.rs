@@ -2,7 +2,7 @@
 
 use std::thread;
 
-use hollgrimsa::{calls, BOOK_LENGTH, EDITED_MOST};
+use hollgrimsa::{calls, Reason, Refusal, BOOK_LENGTH, EDITED_MOST};
 
 const STACK: usize = 64 * 1024;
 
@@ -15,18 +15,54 @@ fn every_call_fits() {
     // Lent bytes are no part of the stack.
     let mut book = vec![0; BOOK_LENGTH];
     let mut out = vec![0; EDITED_MOST];
-    thread::Builder::new()
-        .stack_size(STACK)
-        .spawn(move || {
-            read();
-            work(&mut book);
-            calls::write(&book, 1, &mut out).unwrap();
-            calls::write_block(&mut out, &[0, 1, 2, 1_351_999], 0).unwrap();
-            calls::write_edited(TEXT, &book, &mut out).unwrap();
-        })
-        .unwrap()
-        .join()
-        .unwrap();
+    on_small_stack(move || {
+        read();
+        work(&mut book);
+        calls::write(&book, 1, &mut out).unwrap();
+        calls::write_block(&mut out, &[0, 1, 2, 1_351_999], 0).unwrap();
+        calls::write_edited(TEXT, &book, &mut out).unwrap();
+    });
+}
+
+/// Blocks with far more places than a segment may have are refused there too.
+#[test]
+fn crowded_blocks_fit() {
+    let too_many = crowded("");
+    let twice = crowded("ZZZ999-");
+    let wrong = crowded("ZZZ999-X-");
+    let mut book = vec![0; BOOK_LENGTH];
+    calls::make(&mut book, TEXT, 2002, 4).unwrap();
+    on_small_stack(move || {
+        refuse(&too_many, &mut book, Reason::TooManyPlaces, 26);
+        refuse(&twice, &mut book, Reason::PlaceTwice, 15_574);
+        refuse(&wrong, &mut book, Reason::WrongBlock, 15_581);
+    });
+}
+
+fn on_small_stack(work: impl FnOnce() + Send + 'static) {
+    let thread = thread::Builder::new().stack_size(STACK).spawn(work);
+    thread.unwrap().join().unwrap();
+}
+
+/// One block of a wide range under every prefix, descending, then of this.
+fn crowded(last: &str) -> Vec<u8> {
+    let mut text = String::from("FPUS51 KXYZ 240822\nZFPXYZ\n");
+    let letters = || ('A'..='Z').rev();
+    for (s1, s2) in letters().flat_map(|s1| letters().map(move |s2| (s1, s2))) {
+        text += &format!("{s1}{s2}Z001>999-{s1}{s2}C001>999-\n");
+    }
+    text += last;
+    text += "242100-\n$$\n";
+    text.into_bytes()
+}
+
+/// Every call that reads refuses the text; the book is another's.
+fn refuse(text: &[u8], book: &mut [u8], reason: Reason, place: usize) {
+    let refusal = Refusal { reason, place };
+    assert_eq!(calls::segments(text, 2002, 4), Err(refusal));
+    assert_eq!(calls::view(text, 2002, 4, 1), Err(refusal));
+    assert_eq!(calls::write_edited(text, book, &mut []), Err(refusal));
+    assert_eq!(calls::make(book, text, 2002, 4), Err(refusal));
 }
 
 fn read() {

@@ -1,9 +1,9 @@
 //! Both sides against inputs with right answers.
 //!
 //! The inputs, with endings `.in` and `.out`, are in the folder that
-//! HOLLGRIMSA_VECTORS names; without it they are skipped. level-02 is of
-//! document 01 with R-1 and R-2. A request that changes what an older input
-//! prints leaves that input out here, as R-2 did with those before it.
+//! HOLLGRIMSA_VECTORS names; without it they are skipped. level-03 is of
+//! document 01 with R-1 to R-3. A request that changes what an older input
+//! prints leaves that input out here, as R-2 and R-3 did with those before.
 
 mod plain;
 mod replay;
@@ -16,13 +16,13 @@ use replay::{replay, Calls};
 use sides::{Core, Plain};
 
 #[test]
-fn core_agrees_with_level_02() {
-    compare("core", &Core, "level-02");
+fn core_agrees_with_level_03() {
+    compare("core", &Core, "level-03");
 }
 
 #[test]
-fn plain_agrees_with_level_02() {
-    compare("plain", &Plain, "level-02");
+fn plain_agrees_with_level_03() {
+    compare("plain", &Plain, "level-03");
 }
 
 /// The lines `F n` and `% n`: the edited bulletin of the case's text and the
@@ -43,7 +43,7 @@ fn edited_example_agrees() {
 #[test]
 fn listing_example_agrees() {
     let input = b"2002 04\nFPUS51 KXYZ 240822\nZFPXYZ\n\nZONE FORECAST\n\
-        NATIONAL WEATHER SERVICE ANYTOWN MD\n\nMDC005-003-006>007-005-242100-\nTEXT ONE\n$$\n\
+        NATIONAL WEATHER SERVICE ANYTOWN MD\n\nMDC005-003-006>007-242100-\nTEXT ONE\n$$\n\
         VAZ053-250000-\nTEXT TWO\n$$\n";
     let output = "H FPUS51 KXYZ 240822 - ZFPXYZ -\nS 1 16994700 4 MDC003-005>007-242100-\n\
         S 2 16994880 1 VAZ053-250000-\n";

@@ -5,40 +5,52 @@
 //!
 //! A number handed on is the count of rounds: `cargo bench --offline -- 500`.
 
-mod inputs;
+mod books;
+#[path = "../../tests/generate/element.rs"]
+#[allow(dead_code)]
+mod element;
 mod measure;
 #[path = "../../tests/plain/mod.rs"]
 mod plain;
+#[path = "../../tests/generate/rng.rs"]
+#[allow(dead_code)]
+mod rng;
+mod texts;
 
 use std::env;
 use std::hint::black_box;
 
-use hollgrimsa::{calls, BLOCK_MOST, BOOK_LENGTH, EDITED_MOST, TEXT_MOST};
-use inputs::Books;
-use measure::Table;
+use books::Books;
+use hollgrimsa::{calls, BLOCK_MOST, BOOK_LENGTH, EDITED_MOST};
+use measure::{Lent, Table};
 use plain::book::layout;
+use rng::Rng;
+use texts::{Order, LENT};
 
 const ROUNDS: usize = 4_001;
 
 fn main() {
     let rounds = env::args().find_map(|word| word.parse().ok());
-    let books = Books::new();
-    let mut table = Table::new(rounds.unwrap_or(ROUNDS), &books.full, add_up_checks);
-    let texts = [
-        ("16,384 bytes, 8 segments", inputs::long_text(TEXT_MOST)),
-        ("2 KB, 3 segments", inputs::typical_text()),
-        ("8 segments, places descending", inputs::descending_text()),
-    ];
-    for (name, text) in &texts {
-        reading(&mut table, name, text);
-    }
+    let books = Books::each();
+    let mut table = Table::new(rounds.unwrap_or(ROUNDS), &books[0].full, add_up_checks);
+    let long = "16,384 bytes, 8 segments";
+    let typical = "2 KB, 3 segments";
+    let long_texts: Vec<_> = books.iter().map(|books| books.text.clone()).collect();
+    let typical_texts = texts::each(texts::typical);
+    reading(&mut table, long, &long_texts);
+    reading(&mut table, typical, &typical_texts);
+    full_segments(&mut table);
+    overfull_blocks(&mut table);
     draft_calls(&mut table, &books);
     edit_calls(&mut table, &books);
     history_calls(&mut table, &books);
     writing(&mut table, &books);
-    let [(long, long_text), (typical, typical_text), _] = &texts;
-    edited(&mut table, long, long_text, &books.full);
-    edited(&mut table, typical, typical_text, &books.typical);
+    edited(&mut table, long, &long_texts, |index| {
+        books[index].full.clone()
+    });
+    edited(&mut table, typical, &typical_texts, |index| {
+        books::with_one_step(&typical_texts[index])
+    });
     table.print();
 }
 
@@ -51,135 +63,202 @@ fn add_up_checks(book: &[u8]) -> bool {
     })
 }
 
-fn reading(table: &mut Table<'_>, name: &str, text: &[u8]) {
-    let (year, month) = inputs::LENT;
-    table.add(
+/// Reading alone; each text is accepted, or refused with this number.
+fn read(table: &mut Table<'_>, name: &str, number: Option<u8>, texts: &[Vec<u8>]) {
+    let (year, month) = LENT;
+    let inputs: Vec<_> = texts.iter().map(|text| Lent::of_text(text)).collect();
+    table.add_answered(
         &format!("read {name}"),
-        &[],
-        |_| calls::segments(black_box(text), year, month),
-        |_| plain::read(black_box(text), year as usize, month as usize),
-    );
-    table.add(
-        &format!("view {name}"),
-        &[],
-        |_| calls::view(black_box(text), year, month, 3),
-        |_| plain::view(black_box(text), year as usize, month as usize, 3),
-    );
-    table.add(
-        &format!("make {name}"),
-        &[0xAA; BOOK_LENGTH],
-        |book| calls::make(book, black_box(text), year, month),
-        |book| plain::make(black_box(text), year as usize, month as usize, book),
+        number,
+        &inputs,
+        |lent| calls::segments(&lent.text, year, month),
+        |lent| plain::read(&lent.text, year as usize, month as usize),
     );
 }
 
-fn draft_calls(table: &mut Table<'_>, books: &Books) {
-    table.add("open", &books.one_closed, calls::open, plain::open);
+fn reading(table: &mut Table<'_>, name: &str, texts: &[Vec<u8>]) {
+    read(table, name, None, texts);
+    let (year, month) = LENT;
+    let mut inputs: Vec<_> = texts.iter().map(|text| Lent::of_text(text)).collect();
     table.add(
-        "take",
-        &books.one_untaken,
-        |book| calls::take(book, 4, 8),
-        |book| plain::take(book, 4, 8),
+        &format!("view {name}"),
+        &inputs,
+        |lent| calls::view(&lent.text, year, month, 3),
+        |lent| plain::view(&lent.text, year as usize, month as usize, 3).map(<[u8]>::len),
+    );
+    for input in &mut inputs {
+        input.book = vec![0xAA; BOOK_LENGTH];
+    }
+    table.add(
+        &format!("make {name}"),
+        &inputs,
+        |lent| calls::make(&mut lent.book, &lent.text, year, month),
+        |lent| plain::make(&lent.text, year as usize, month as usize, &mut lent.book),
+    );
+}
+
+/// Bulletins of 8 segments with 120 places each.
+fn full_segments(table: &mut Table<'_>) {
+    for (name, width, order) in [
+        ("singles ascending", 1, Order::Ascending),
+        ("singles descending", 1, Order::Descending),
+        ("singles in random order", 1, Order::Random),
+        ("ranges of 2 in random order", 2, Order::Random),
+        ("ranges of 15 ascending", 15, Order::Ascending),
+    ] {
+        let texts = texts::each(|rng| texts::full_segments(rng, width, order));
+        read(table, &format!("8 segments of 120, {name}"), None, &texts);
+    }
+}
+
+/// Bulletins of one block with far more places than a segment may have.
+fn overfull_blocks(table: &mut Table<'_>) {
+    for (name, order) in [
+        ("ascending", Order::Ascending),
+        ("descending", Order::Descending),
+        ("in random order", Order::Random),
+    ] {
+        let texts = texts::each(|rng| texts::overfull(rng, order, false));
+        let singles = format!("block of 4,000 singles {name}");
+        read(table, &singles, Some(11), &texts);
+        let texts = texts::each(|rng| texts::overfull_of_ranges(rng, order));
+        let ranges = format!("block of 1,352 ranges {name}");
+        read(table, &ranges, Some(11), &texts);
+    }
+    let texts = texts::each(|rng| texts::overfull(rng, Order::Random, true));
+    let last_again = "block of 4,000 singles, the last again";
+    read(table, last_again, Some(25), &texts);
+}
+
+/// What is lent where a call has a book alone.
+fn each_book(books: &[Books], book: impl Fn(&Books) -> &Vec<u8>) -> Vec<Lent> {
+    let lent = books.iter().map(|books| Lent::of_book(book(books)));
+    lent.collect()
+}
+
+fn draft_calls(table: &mut Table<'_>, books: &[Books]) {
+    table.add(
+        "open",
+        &each_book(books, |books| &books.one_closed),
+        |lent| calls::open(&mut lent.book),
+        |lent| plain::open(&mut lent.book),
     );
     table.add(
+        "take",
+        &each_book(books, |books| &books.one_untaken),
+        |lent| calls::take(&mut lent.book, 4, 8),
+        |lent| plain::take(&mut lent.book, 4, 8),
+    );
+    let full = each_book(books, |books| &books.full);
+    table.add(
         "read purge",
-        &books.full,
-        |book| calls::read_purge(book, 4, 8),
-        |book| plain::read_purge(book, 4, 8),
+        &full,
+        |lent| calls::read_purge(&lent.book, 4, 8),
+        |lent| plain::read_purge(&lent.book, 4, 8),
     );
     table.add(
         "read count",
-        &books.full,
-        |book| calls::read_count(book, 4, 8),
-        |book| plain::read_count(book, 4, 8),
+        &full,
+        |lent| calls::read_count(&lent.book, 4, 8),
+        |lent| plain::read_count(&lent.book, 4, 8),
     );
     table.add(
         "read place",
-        &books.full,
-        |book| calls::read_place(book, 4, 8, 119),
-        |book| plain::read_place(book, 4, 8, 119),
+        &full,
+        |lent| calls::read_place(&lent.book, 4, 8, 119),
+        |lent| plain::read_place(&lent.book, 4, 8, 119),
     );
 }
 
-fn edit_calls(table: &mut Table<'_>, books: &Books) {
-    let place = books.middle_place;
+fn edit_calls(table: &mut Table<'_>, books: &[Books]) {
+    let with_place = |books: &Books, book: &[u8]| Lent {
+        places: vec![books.middle_place()],
+        ..Lent::of_book(book)
+    };
+    let of_119 = books
+        .iter()
+        .map(|books| with_place(books, &books.one_of_119));
     table.add(
         "add",
-        &books.one_of_119,
-        |book| calls::add(book, 1, 1, u64::from(place)),
-        |book| plain::add(book, 1, 1, place as usize),
+        &of_119.collect::<Vec<_>>(),
+        |lent| calls::add(&mut lent.book, 1, 1, lent.places[0].into()),
+        |lent| plain::add(&mut lent.book, 1, 1, lent.places[0] as usize),
     );
+    let full = books.iter().map(|books| with_place(books, &books.full));
+    let full: Vec<_> = full.collect();
     table.add(
         "remove",
-        &books.full,
-        |book| calls::remove(book, 1, 1, u64::from(place)),
-        |book| plain::remove(book, 1, 1, place as usize),
+        &full,
+        |lent| calls::remove(&mut lent.book, 1, 1, lent.places[0].into()),
+        |lent| plain::remove(&mut lent.book, 1, 1, lent.places[0] as usize),
     );
     table.add(
         "set purge",
-        &books.full,
-        |book| calls::set_purge(book, 1, 1, [28, 12, 0]),
-        |book| plain::set_purge(book, 1, 1, 28, 12, 0),
+        &full,
+        |lent| calls::set_purge(&mut lent.book, 1, 1, [28, 12, 0]),
+        |lent| plain::set_purge(&mut lent.book, 1, 1, 28, 12, 0),
     );
 }
 
-fn history_calls(table: &mut Table<'_>, books: &Books) {
+fn history_calls(table: &mut Table<'_>, books: &[Books]) {
+    let full = each_book(books, |books| &books.full);
     table.add(
         "commit of two changed segments",
-        &books.full,
-        |book| calls::commit(book, 1),
-        |book| plain::commit(book, 1),
+        &full,
+        |lent| calls::commit(&mut lent.book, 1),
+        |lent| plain::commit(&mut lent.book, 1),
     );
     table.add(
         "drop",
-        &books.full,
-        |book| calls::drop(book, 1),
-        |book| plain::drop(book, 1),
+        &full,
+        |lent| calls::drop(&mut lent.book, 1),
+        |lent| plain::drop(&mut lent.book, 1),
     );
     table.add(
         "undo of two segments",
-        &books.full,
-        calls::undo,
-        plain::undo,
+        &full,
+        |lent| calls::undo(&mut lent.book),
+        |lent| plain::undo(&mut lent.book),
     );
 }
 
-fn writing(table: &mut Table<'_>, books: &Books) {
+fn writing(table: &mut Table<'_>, books: &[Books]) {
+    let full = books.iter().map(|books| Lent {
+        places: books.places.clone(),
+        out: vec![0; BLOCK_MOST],
+        ..Lent::of_book(&books.full)
+    });
+    let full: Vec<_> = full.collect();
     table.add(
         "write",
-        &books.full,
-        |book| {
-            let mut out = [0; BLOCK_MOST];
-            let length = calls::write(book, 1, &mut out);
-            black_box(out);
-            length
-        },
-        |book| {
-            let mut out = [0; BLOCK_MOST];
-            let length = plain::write(book, 1, &mut out);
-            black_box(out);
-            length
-        },
+        &full,
+        |lent| calls::write(&lent.book, 1, &mut lent.out),
+        |lent| plain::write(&lent.book, 1, &mut lent.out),
     );
-    let places = inputs::places(1);
+    let purge = black_box(16_994_700);
     table.add(
         "write block of 120 places",
-        &[0; BLOCK_MOST],
-        |out| calls::write_block(out, black_box(&places), inputs::PURGE.into()),
-        |out| {
-            let block = plain::written(black_box(&places), inputs::PURGE);
-            out[..block.len()].copy_from_slice(&block);
-            Ok::<_, plain::Refusal>(block.len())
+        &full,
+        |lent| calls::write_block(&mut lent.out, &lent.places, purge.into()),
+        |lent| {
+            let block = plain::written(&lent.places, purge);
+            lent.out[..block.len()].copy_from_slice(&block);
+            Ok(block.len())
         },
     );
 }
 
-/// The edited bulletin of a text and a book of it, into an output.
-fn edited(table: &mut Table<'_>, name: &str, text: &[u8], book: &[u8]) {
+/// The edited bulletin of each text and a book of it, into an output.
+fn edited(table: &mut Table<'_>, name: &str, texts: &[Vec<u8>], book: impl Fn(usize) -> Vec<u8>) {
+    let inputs = texts.iter().enumerate().map(|(index, text)| Lent {
+        book: book(index),
+        out: vec![0; EDITED_MOST],
+        ..Lent::of_text(text)
+    });
     table.add(
         &format!("write edited {name}"),
-        &[0; EDITED_MOST],
-        |out| calls::write_edited(black_box(text), black_box(book), out),
-        |out| plain::write_edited(black_box(text), black_box(book), out),
+        &inputs.collect::<Vec<_>>(),
+        |lent| calls::write_edited(&lent.text, &lent.book, &mut lent.out),
+        |lent| plain::write_edited(&lent.text, &lent.book, &mut lent.out),
     );
 }

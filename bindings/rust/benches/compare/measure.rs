@@ -1,8 +1,45 @@
 //! Interleaved rounds, and the table of their medians.
 
-use std::fmt::Debug;
 use std::hint::black_box;
 use std::time::Instant;
+
+use super::plain;
+
+/// What is lent to a call; what it does not take is empty.
+#[derive(Default)]
+pub struct Lent {
+    pub text: Vec<u8>,
+    pub book: Vec<u8>,
+    pub places: Vec<u32>,
+    pub out: Vec<u8>,
+}
+
+impl Lent {
+    pub fn of_text(text: &[u8]) -> Self {
+        Lent {
+            text: text.to_vec(),
+            ..Lent::default()
+        }
+    }
+
+    pub fn of_book(book: &[u8]) -> Self {
+        Lent {
+            book: book.to_vec(),
+            ..Lent::default()
+        }
+    }
+
+    /// Becomes a copy of this, in the memory that it has.
+    fn copy(&mut self, from: &Lent) {
+        self.text.clone_from(&from.text);
+        self.book.clone_from(&from.book);
+        self.places.clone_from(&from.places);
+        self.out.clone_from(&from.out);
+    }
+}
+
+/// A refusal's number and place; none where the call was accepted.
+type Told = Option<(u8, usize)>;
 
 /// Medians in microseconds.
 struct Row {
@@ -39,29 +76,62 @@ impl<'a> Table<'a> {
         time
     }
 
-    /// Measures the same work by both and keeps the row. Each is handed a
-    /// fresh copy of the start's bytes, which is not timed, and must accept.
-    pub fn add<A, B, E: Debug, F: Debug>(
+    /// Measures the same work by both and keeps the row. The rounds go over the
+    /// inputs by turns; each side is handed a fresh copy, which is not timed,
+    /// and must accept.
+    pub fn add<A, B>(
         &mut self,
         name: &str,
-        start: &[u8],
-        by_core: impl Fn(&mut [u8]) -> Result<A, E>,
-        by_plain: impl Fn(&mut [u8]) -> Result<B, F>,
+        inputs: &[Lent],
+        by_core: impl Fn(&mut Lent) -> Result<A, hollgrimsa::Refusal>,
+        by_plain: impl Fn(&mut Lent) -> Result<B, plain::Refusal>,
     ) {
-        let (mut core, mut plain, mut checks) = (Vec::new(), Vec::new(), Vec::new());
-        let mut lent = start.to_vec();
+        self.add_answered(name, None, inputs, by_core, by_plain);
+    }
+
+    /// The same, where both refuse every input with this number, if one is
+    /// given, and at the same place.
+    pub fn add_answered<A, B>(
+        &mut self,
+        name: &str,
+        number: Option<u8>,
+        inputs: &[Lent],
+        by_core: impl Fn(&mut Lent) -> Result<A, hollgrimsa::Refusal>,
+        by_plain: impl Fn(&mut Lent) -> Result<B, plain::Refusal>,
+    ) {
+        let core = |lent: &mut Lent| {
+            let (time, answer) = timed(|| by_core(black_box(lent)));
+            (time, answer.err().map(|r| (r.reason.number(), r.place)))
+        };
+        let plain = |lent: &mut Lent| {
+            let (time, answer) = timed(|| by_plain(black_box(lent)));
+            (time, answer.err().map(|r| (r.number, r.place)))
+        };
+        let (mut times, mut checks) = ([Vec::new(), Vec::new()], Vec::new());
+        let mut lent = Lent::default();
         for round in 0..self.rounds {
             checks.push(self.time_checks());
-            // Each goes first in every other round.
-            for turn in [round % 2, 1 - round % 2] {
-                lent.copy_from_slice(start);
-                if turn == 0 {
-                    core.push(accepted(&mut lent, &by_core));
+            let (turn, index) = (round / inputs.len(), round % inputs.len());
+            // Each goes first in every other round, and by turns with an input.
+            let first = (turn + index) % 2;
+            let mut told: [Told; 2] = [None; 2];
+            for side in [first, 1 - first] {
+                lent.copy(&inputs[index]);
+                let answer = if side == 0 {
+                    core(&mut lent)
                 } else {
-                    plain.push(accepted(&mut lent, &by_plain));
-                }
+                    plain(&mut lent)
+                };
+                times[side].push(answer.0);
+                told[side] = answer.1;
             }
+            assert_eq!(told[0], told[1], "{name}");
+            assert_eq!(told[0].map(|(number, _)| number), number, "{name}");
         }
+        self.keep(name, times, checks);
+    }
+
+    fn keep(&mut self, name: &str, [core, plain]: [Vec<f64>; 2], checks: Vec<f64>) {
         let [low, core, high] = quartiles(core);
         self.rows.push(Row {
             name: name.to_string(),
@@ -95,12 +165,6 @@ impl Row {
         print!("| {name} | {core:.2} | {plain:.2} | {ratio:.2} ");
         println!("| {checks:.2} | {to_checks:.2} | {noise:.0} % |");
     }
-}
-
-fn accepted<T, E: Debug>(lent: &mut [u8], work: impl Fn(&mut [u8]) -> Result<T, E>) -> f64 {
-    let (time, answer) = timed(|| work(black_box(lent)));
-    black_box(answer.expect("the work is accepted"));
-    time
 }
 
 /// The microseconds that this takes.

@@ -1,6 +1,6 @@
 //! Bulletins.
 
-use super::block::{push_block, push_time, Ends};
+use super::block::{push_block, push_crowded_block, push_time, Ends};
 use super::Rng;
 
 /// The year and month lent with a text.
@@ -31,6 +31,22 @@ pub fn text(rng: &mut Rng) -> Vec<u8> {
     push_front(rng, ends, &mut out);
     for _ in 0..segments {
         push_segment(rng, ends, 4, &mut out);
+    }
+    out
+}
+
+/// A bulletin whose last block has about 120 places or many more.
+pub fn crowded_text(rng: &mut Rng) -> Vec<u8> {
+    let ends = Ends::any(rng);
+    let mut out = Vec::new();
+    push_front(rng, ends, &mut out);
+    for _ in 0..rng.below(2) {
+        push_segment(rng, ends, 1, &mut out);
+    }
+    push_crowded_block(rng, ends, &mut out);
+    if !rng.once_in(8) {
+        out.extend(b"$$");
+        ends.push(rng, &mut out);
     }
     out
 }

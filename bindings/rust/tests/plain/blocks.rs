@@ -1,5 +1,7 @@
 //! Place code blocks: their elements, the places they cover and their purge.
 
+use std::collections::BTreeMap;
+
 use super::calendar::DayTime;
 use super::lines::{self, past_line_end};
 use super::refusal::{self, Refusal};
@@ -101,40 +103,77 @@ fn span(bytes: &[u8]) -> Option<(u32, u32)> {
     }
 }
 
-/// A set of places, ascending, that knows when it would hold too many.
-struct Places {
-    numbers: Vec<u32>,
-    over: bool,
+/// The places that elements covered so far, each of them once.
+enum Covered {
+    /// So many as a segment may have, ascending.
+    Few(Vec<u32>),
+    /// More: the last place of each element by its first.
+    Many(BTreeMap<u32, u32>),
 }
 
-impl Places {
-    fn cover(&mut self, first: u32, last: u32) {
-        let room = MAX_PLACES - self.numbers.len();
-        let ascends = self.numbers.last().is_none_or(|&highest| highest < first);
-        if ascends && (last - first) < room as u32 {
-            self.numbers.extend(first..=last);
-        } else if !self.over {
-            (first..=last).for_each(|number| self.insert(number));
+impl Covered {
+    /// Covers the places of one more element; or answers false, where one of
+    /// them is covered already.
+    fn cover(&mut self, first: u32, last: u32) -> bool {
+        match self {
+            Covered::Few(places) => {
+                let Some(index) = gap(places, first, last) else {
+                    return false;
+                };
+                if places.len() + (last - first) as usize >= MAX_PLACES {
+                    let each = places.iter().map(|&place| (place, place));
+                    *self = Covered::Many(each.chain([(first, last)]).collect());
+                } else {
+                    insert(places, index, first, last);
+                }
+                true
+            }
+            Covered::Many(elements) => {
+                let below = elements.range(..=last).next_back();
+                let free = below.is_none_or(|(_, &end)| end < first);
+                if free {
+                    elements.insert(first, last);
+                }
+                free
+            }
         }
     }
 
-    fn insert(&mut self, number: u32) {
-        if let Err(index) = self.numbers.binary_search(&number) {
-            if self.numbers.len() == MAX_PLACES {
-                self.over = true;
-            } else {
-                self.numbers.insert(index, number);
-            }
+    /// The places, where a segment may have so many.
+    fn few(self) -> Option<Vec<u32>> {
+        match self {
+            Covered::Few(places) => Some(places),
+            Covered::Many(_) => None,
         }
+    }
+}
+
+/// The index at which the places from first to last belong, if none of them is
+/// there.
+fn gap(places: &[u32], first: u32, last: u32) -> Option<usize> {
+    if places.last().is_none_or(|&highest| highest < first) {
+        return Some(places.len());
+    }
+    let index = places.partition_point(|&place| place < first);
+    (last < places[index]).then_some(index)
+}
+
+fn insert(places: &mut Vec<u32>, index: usize, first: u32, last: u32) {
+    let behind = places.len() - index;
+    if behind == 0 {
+        places.extend(first..=last);
+    } else if first == last {
+        places.insert(index, first);
+    } else {
+        places.extend(first..=last);
+        places[index..].rotate_left(behind);
     }
 }
 
 /// A block as read.
 pub struct Block {
-    /// Its places, ascending.
-    pub places: Vec<u32>,
-    /// Did it cover more places than a segment may have?
-    pub over: bool,
+    /// Its places, ascending, where a segment may have so many.
+    pub places: Option<Vec<u32>>,
     pub purge: DayTime,
     /// Where the purge element starts.
     pub purge_start: usize,
@@ -142,12 +181,11 @@ pub struct Block {
     pub past: usize,
 }
 
-/// Reads the block that opens here.
+/// Reads the block that opens here. A wrong element, wherever it stands, is
+/// refused before a place that is named twice.
 pub fn read(text: &[u8], start: usize) -> Result<Block, Refusal> {
-    let mut places = Places {
-        numbers: Vec::with_capacity(MAX_PLACES),
-        over: false,
-    };
+    let mut covered = Covered::Few(Vec::with_capacity(MAX_PLACES));
+    let mut twice = None;
     let mut cursor = Cursor {
         text,
         at: start,
@@ -158,13 +196,18 @@ pub fn read(text: &[u8], start: usize) -> Result<Block, Refusal> {
         let wrong = Refusal::at(refusal::BLOCK, at);
         let (element, moved) = cursor.step().ok_or(wrong)?;
         match element {
-            Element::Places(first, last) => places.cover(first, last),
+            Element::Places(first, last) => {
+                if twice.is_none() && !covered.cover(first, last) {
+                    twice = Some(at);
+                }
+            }
             Element::Purge(purge) => {
-                let Places { numbers, over } = places;
                 let past = end_of_block(text, at)?;
+                if let Some(place) = twice {
+                    return Err(Refusal::at(refusal::PLACE_TWICE, place));
+                }
                 return Ok(Block {
-                    places: numbers,
-                    over,
+                    places: covered.few(),
                     purge,
                     purge_start: at,
                     past,

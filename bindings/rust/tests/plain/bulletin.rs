@@ -119,9 +119,8 @@ fn read_segment(text: &[u8], start: usize, issue: &Issue) -> Result<Segment, Ref
     let block = blocks::read(text, start)?;
     let no_minute = Refusal::at(refusal::TIME, block.purge_start);
     let purge = issue.purge(block.purge).ok_or(no_minute)?;
-    if block.over {
-        return Err(Refusal::at(refusal::TOO_MANY_PLACES, start));
-    }
+    let too_many = Refusal::at(refusal::TOO_MANY_PLACES, start);
+    let places = block.places.ok_or(too_many)?;
     let end = Lines::from(text, block.past).find(|line| line.is_end_of_segment());
     let end = end.ok_or(Refusal::at(refusal::NO_END, start))?;
     Ok(Segment {
@@ -129,6 +128,6 @@ fn read_segment(text: &[u8], start: usize, issue: &Issue) -> Result<Segment, Ref
         block_end: block.past,
         past: end.past,
         purge,
-        places: block.places,
+        places,
     })
 }

@@ -31,6 +31,7 @@ pub const STALE: u8 = 21;
 pub const NO_STEP: u8 = 22;
 pub const SHORT_OUTPUT: u8 = 23;
 pub const OUT_OF_RANGE: u8 = 24;
+pub const PLACE_TWICE: u8 = 25;
 pub const NOT_BELONGING: u8 = 27;
 
 impl Refusal {
