@@ -9,13 +9,13 @@ use lib.ListN.{length, getD, set, length-set}
 use lib.Seq.{getD-set-same, getD-set-other}
 use Rattle.laws.proofs.Tests.{by-order}
 use Rattle.blocks.specs.Block.{sumTo, checkOf}
-use Rattle.blocks.specs.Columns.{cell, columnSum, columnRows, weighed, ColumnsIn}
+use Rattle.blocks.specs.Columns.{rowByte, columnSum, columnRows, weighed, ColumnsIn}
 
 -- ---- the sum, row by row and column by column
 -- what the first k bytes of a row add to the sum
 rowTo : ℕ → ℕ → List ℕ → ℕ
 rowTo row zero b = 0
-rowTo row (suc k) b = rowTo row k b + suc (64 * row + k) * cell b row k
+rowTo row (suc k) b = rowTo row k b + suc (64 * row + k) * rowByte b row k
 
 -- the sum goes on by a part of a row
 row-sum : (row k : ℕ) (b : List ℕ) → sumTo (64 * row + k) b ≡ sumTo (64 * row) b + rowTo row k b

@@ -5,16 +5,16 @@ use mathlib.Core.List.{List}
 use lib.ListN.{getD}
 
 -- the byte in a row and a column
-abbrev pub cell : List ℕ → ℕ → ℕ → ℕ
-cell b row j = getD b (64 * row + j) 0
+abbrev pub rowByte : List ℕ → ℕ → ℕ → ℕ
+rowByte b row j = getD b (64 * row + j) 0
 
 -- the sum of the bytes of column j
 unfoldable pub columnSum : List ℕ → ℕ → ℕ
-columnSum b j = cell b 0 j + cell b 1 j + cell b 2 j + cell b 3 j + cell b 4 j + cell b 5 j + cell b 6 j + cell b 7 j
+columnSum b j = rowByte b 0 j + rowByte b 1 j + rowByte b 2 j + rowByte b 3 j + rowByte b 4 j + rowByte b 5 j + rowByte b 6 j + rowByte b 7 j
 
 -- the sum of each byte of column j times the number of its row
 unfoldable pub columnRows : List ℕ → ℕ → ℕ
-columnRows b j = cell b 1 j + 2 * cell b 2 j + 3 * cell b 3 j + 4 * cell b 4 j + 5 * cell b 5 j + 6 * cell b 6 j + 7 * cell b 7 j
+columnRows b j = rowByte b 1 j + 2 * rowByte b 2 j + 3 * rowByte b 3 j + 4 * rowByte b 4 j + 5 * rowByte b 5 j + 6 * rowByte b 6 j + 7 * rowByte b 7 j
 
 -- two lists hold these sums of the first k columns
 pub record ColumnsIn (b : List ℕ) (k : ℕ) (sums rows : List ℕ) : Type 0 where

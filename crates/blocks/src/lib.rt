@@ -7,7 +7,7 @@ ghost use lib.Seq.{slice, sets};
 ghost use Rattle.calendar.specs.Window.{WindowOf};
 ghost use Rattle.codes.specs.Places.{capacity, ascends};
 ghost use Rattle.blocks.specs.Block.{checkOf, sealed, checked, bytes32, numberAt, numbersOf, flat, blockOf, putBlock, allZero, sameList, bookLength, blockCount, blockLength};
-ghost use Rattle.blocks.specs.Columns.{cell, columnSum, columnRows, weighed, ColumnsIn};
+ghost use Rattle.blocks.specs.Columns.{rowByte, columnSum, columnRows, weighed, ColumnsIn};
 ghost use Rattle.blocks.specs.Content.{contentOf, holding};
 ghost use Rattle.blocks.specs.Good.{isUsed, isUnused};
 ghost use Rattle.blocks.specs.Held.{heldContent, Fits};
@@ -46,7 +46,7 @@ pub fn size(x: u8) -> usize
 // The byte in a row and a column of a block, which is eight rows of 64 bytes.
 fn cell_at(b: &[u8], row: usize, j: usize) -> u16
     requires { ⌜ (length (now b) ≡ blockLength) × (row < 8) × (j < 64) ⌝ }
-    ensures { λ r. ⌜ (r ≡ cell (now (b .entry)) row j) × (r < 256) ⌝ }
+    ensures { λ r. ⌜ (r ≡ rowByte (now (b .entry)) row j) × (r < 256) ⌝ }
 {
     short(b[64 * row + j])
 }

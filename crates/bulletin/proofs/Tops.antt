@@ -29,7 +29,7 @@ use Rattle.heading.specs.Paper.{paperHeaded, paperHeading}
 use Rattle.heading.specs.declared.Heading.{Heading}
 use Rattle.heading.specs.declared.Headed.{Headed}
 use Rattle.heading.specs.declared.Headed.the-variants as headed
-use Rattle.bulletin.specs.Search.{later}
+use Rattle.bulletin.specs.Search.{linesAfter}
 use Rattle.bulletin.specs.Searching.{linesOn}
 use Rattle.bulletin.specs.Bulletin as rule
 use Rattle.bulletin.specs.Bulletin.{isLength, line1, line2}
@@ -54,10 +54,10 @@ module _ (s : List ℕ) (year month : ℕ) where
     check-text q r e = rw (y, ← et, q) e
 
 -- ---- the lines one by one
-later-is : (s : List ℕ) (at : ℕ) → later (linesOn s at) ≡ linesOn s (nextOf s at)
+later-is : (s : List ℕ) (at : ℕ) → linesAfter (linesOn s at) ≡ linesOn s (nextOf s at)
 later-is s at =
     by-order at (length s) (λ h. rw (lines-step s at h))
-    (λ h. ap later (lines-last s at h) ∙ sym (ap (linesOn s) (next-last s at h) ∙ lines-last s at h))
+    (λ h. ap linesAfter (lines-last s at h) ∙ sym (ap (linesOn s) (next-last s at h) ∙ lines-last s at h))
 
 module _ (s : List ℕ) (at : ℕ) (f : Lined) (e : paperLined f ≡ spanAt s at) (l : Span) (z : f ≡ lined.Line l) (line : List ℕ) (q : line ≡ part s at (l .end)) where
   line1-is : line1 (linesOn s at) ≡ rule.headed (headingOf line)
@@ -86,7 +86,7 @@ module _ (s : List ℕ) (year month : ℕ) (fa : Lined) (ea : paperLined fa ≡ 
     first-line : line1 (linesOf s) ≡ ok (paperHeading g)
     first-line = heading-is ∙ ap (λ (x : Headed). rule.headed (paperHeaded x)) q
 
-    next-lines : later (linesOf s) ≡ linesOn s (a .next)
+    next-lines : linesAfter (linesOf s) ≡ linesOn s (a .next)
     next-lines = later-is s 0 ∙ ap (linesOn s) (sym (found-next s 0 fa ea a qa))
 
     pub top-short : fb ≡ lined.Nothing → (r : Topped) → r ≡ topped.Refused (refusalFor wrongIdentifier (a .next)) → paperTopped s r ≡ topOf s year month
@@ -97,7 +97,7 @@ module _ (s : List ℕ) (year month : ℕ) (fa : Lined) (ea : paperLined fa ≡ 
         rw (e, first-line, next-lines, lines-last s (a .next) h, m)
 
     module _ (b : Span) (qb : fb ≡ lined.Line b) (name : List ℕ) (en : name ≡ part s (a .next) (b .end)) (t : Bool) (et : t ≡ isIdentifier name) where
-      second-line : line2 (length s) (later (linesOf s)) ≡ cond t (ok (a .next)) (no 4 (a .next))
+      second-line : line2 (length s) (linesAfter (linesOf s)) ≡ cond t (ok (a .next)) (no 4 (a .next))
       second-line = ap (line2 (length s)) next-lines ∙ line2-is s (a .next) fb eb b qb name en ∙ rw (← et)
 
       pub top-identifier : t ≡ false → (r : Topped) → r ≡ topped.Refused (refusalFor wrongIdentifier (a .next)) → paperTopped s r ≡ topOf s year month
@@ -109,9 +109,9 @@ module _ (s : List ℕ) (year month : ℕ) (fa : Lined) (ea : paperLined fa ≡ 
         unfolding topOf andThen
         top-issue n r e = rw (e, first-line, second-line, y, ← em, n)
 
-        third-lines : later (later (linesOf s)) ≡ linesOn s (b .next)
+        third-lines : linesAfter (linesAfter (linesOf s)) ≡ linesOn s (b .next)
         third-lines =
-            ap later next-lines ∙ later-is s (a .next) ∙ ap (linesOn s) (sym (found-next s (a .next) fb eb b qb))
+            ap linesAfter next-lines ∙ later-is s (a .next) ∙ ap (linesOn s) (sym (found-next s (a .next) fb eb b qb))
 
         pub top-right : (issue : ℕ) → m ≡ moment.At issue
             → paperTopped s (topped.Right (record { heading = g; identifier = a .next; issue = issue; third = b .next })) ≡ topOf s year month

@@ -12,7 +12,7 @@ use Rattle.lines.specs.Check.{checkText}
 use Rattle.calendar.specs.Calendar.{isIssueMonth, minuteOf}
 use Rattle.heading.specs.Heading.{Heading, headingOf, isIdentifier}
 use Rattle.heading.specs.Storm.{StormName}
-use Rattle.bulletin.specs.Search.{later}
+use Rattle.bulletin.specs.Search.{linesAfter}
 use Rattle.bulletin.specs.Mnd.{stormIn}
 use Rattle.bulletin.specs.Segments.{Segment, segmentsOf}
 
@@ -57,7 +57,7 @@ readBulletin text year month =
     andThen (must (isIssueMonth year month) wrongTime 0) λ _.
     andThen (checkText text) λ _.
     andThen (line1 (linesOf text)) λ heading.
-    andThen (line2 (length text) (later (linesOf text))) λ identifier.
+    andThen (line2 (length text) (linesAfter (linesOf text))) λ identifier.
     andThen (issued (minuteOf (record { year = year; month = month; stamp = heading .stamp }))) λ issue.
     andThen (stormIn (linesOf text)) λ storm.
     andThen (segmentsOf text issue (linesOf text)) λ segments.

@@ -11,7 +11,7 @@ use mathlib.Core.List.{List}
 use mathlib.Core.Option.{Option}
 use Rattle.refusal.specs.Answer.{Answer, ok, must, andThen, paperRefusal}
 use Rattle.lines.specs.Lines.{Line, linesOf}
-use Rattle.bulletin.specs.Search.{later}
+use Rattle.bulletin.specs.Search.{linesAfter}
 use Rattle.bulletin.specs.Searching.{linesOn}
 use Rattle.bulletin.specs.Bulletin.{isLength, line1, line2, issued}
 use Rattle.bulletin.specs.declared.Topped.{Topped}
@@ -46,9 +46,9 @@ pub record Above : Type 0 where
 unfoldable pub topOf : List ℕ → ℕ → ℕ → Answer Above
 topOf text year month =
     andThen (line1 (linesOf text)) λ heading.
-    andThen (line2 (length text) (later (linesOf text))) λ identifier.
+    andThen (line2 (length text) (linesAfter (linesOf text))) λ identifier.
     andThen (issued (minuteOf (record { year = year; month = month; stamp = heading .stamp }))) λ issue.
-    ok (record { heading = heading; identifier = identifier; issue = issue; below = later (later (linesOf text)) })
+    ok (record { heading = heading; identifier = identifier; issue = issue; below = linesAfter (linesAfter (linesOf text)) })
 
 abbrev pub paperTopped : List ℕ → Topped → Answer Above
 paperTopped text (topped.Right t) = ok (record { heading = paperHeading (t .heading); identifier = t .identifier; issue = t .issue; below = linesOn text (t .third) })

@@ -12,12 +12,12 @@ unfoldable pub upToFirst : (List ℕ → Bool) → List Line → List Line
 upToFirst p [] = []
 upToFirst p (l ∷ ls) = cond (p (l .body)) [] (l ∷ upToFirst p ls)
 
-abbrev pub later : List Line → List Line
-later [] = []
-later (l ∷ ls) = ls
+abbrev pub linesAfter : List Line → List Line
+linesAfter [] = []
+linesAfter (l ∷ ls) = ls
 
 abbrev pub afterFirst : (List ℕ → Bool) → List Line → List Line
-afterFirst p ls = later (fromFirst p ls)
+afterFirst p ls = linesAfter (fromFirst p ls)
 
 -- "up to the next blank line, the next `$$` line or the end of text": a line that closes the MND block
 abbrev pub closes : List ℕ → Bool

@@ -9,7 +9,7 @@ use Rattle.refusal.specs.Answer.{Answer, ok, refused, andThen}
 use Rattle.lines.specs.Lines.{Line, blank, isEnd, opens}
 use Rattle.codes.specs.Block.{Content}
 use Rattle.reading.specs.Placed.{placedAt}
-use Rattle.bulletin.specs.Search.{fromFirst, later}
+use Rattle.bulletin.specs.Search.{fromFirst, linesAfter}
 use Rattle.bulletin.specs.Mnd.{pastMnd}
 
 -- its first byte's place, where its block starts too; the place after its block's last line, and after its `$$` line; and its content
@@ -53,7 +53,7 @@ fromLine3 past stop [] = refused noSegment stop
 fromLine3 past stop (l ∷ ls) = cond (blank (l .body)) (ok past) (cond (opens (l .body)) (ok (l ∷ ls)) (refused wrongBlock (l .start)))
 
 unfoldable pub firstLines : ℕ → List Line → Answer (List Line)
-firstLines stop lines = fromLine3 (pastMnd lines) stop (later (later lines))
+firstLines stop lines = fromLine3 (pastMnd lines) stop (linesAfter (linesAfter lines))
 
 -- "A bulletin has 1 to 8 segments." | 7 | no segment | text length |
 abbrev pub most : ℕ

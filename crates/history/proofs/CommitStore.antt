@@ -17,7 +17,7 @@ use Rattle.moves.specs.Named.{Among}
 use Rattle.moves.specs.Undo.{withHistory}
 use Rattle.moves.proofs.StepsForgot.{Pushes}
 use Rattle.moves.proofs.StepsLies.{parts-low}
-use Rattle.history.specs.Changing.{changedOf, Placing, Placings, AllPlaced, Stands, Finds, replaced, Leaves}
+use Rattle.history.specs.Changing.{changedOf, Placing, Placings, AllPlaced, Stands, Finds, withStored, Leaves}
 use Rattle.history.specs.declared.Found.{Found}
 use Rattle.history.specs.declared.Found.the-variants as found
 use Rattle.history.proofs.Stores.{Replaces, finds-numbers, finds-among}
@@ -67,6 +67,6 @@ commit-found-done l l1 l2 m d f c says placed p q r b lies sound cs finds =
     record {
       says = sym named;
       left =
-          r (replaced (withHistory b h) cs)
+          r (withStored (withHistory b h) cs)
           (q (withHistory b h) lies1 (b .issue) (length (b .segments)) (sound .drafts) cs (finds-on b h f cs (placed .each) finds));
     }

@@ -21,7 +21,7 @@ use Rattle.moves.specs.Named.{Among}
 use Rattle.moves.specs.Undo.{withSegments}
 use Rattle.moves.proofs.DraftsStale.{Marks}
 use Rattle.moves.proofs.StepsLies.{parts-high}
-use Rattle.history.specs.Changing.{changedOf, Placing, Placings, AllPlaced, FindsOne, FindsTwo, Finds, replaced}
+use Rattle.history.specs.Changing.{changedOf, Placing, Placings, AllPlaced, FindsOne, FindsTwo, Finds, withStored}
 use Rattle.history.specs.declared.Found.{Found}
 use Rattle.history.specs.declared.Found.the-variants as found
 
@@ -33,7 +33,7 @@ abbrev pub Stores : List ℕ → List ℕ → Found → Type 0
 Stores l m f = (b : Book) → Lies l b → (cs : List Copy) → Finds b f cs → Lies m (withSegments b (stored cs (b .segments)))
 
 abbrev pub Replaces : List ℕ → List ℕ → Found → Type 0
-Replaces l m f = (b : Book) → Lies l b → (issue n : ℕ) → All (FineDraft issue n) (b .drafts) → (cs : List Copy) → Finds b f cs → Lies m (replaced b cs)
+Replaces l m f = (b : Book) → Lies l b → (issue n : ℕ) → All (FineDraft issue n) (b .drafts) → (cs : List Copy) → Finds b f cs → Lies m (withStored b cs)
 
 -- ---- the segments that were found
 module _ (f : Found) (p : AllPlaced blockCount f) where

@@ -25,7 +25,7 @@ use Rattle.layout.proofs.Said.{step-past}
 use Rattle.layout.proofs.Rules.{does-step, does-refused}
 use Rattle.moves.specs.Undo.{withKept}
 use Rattle.moves.proofs.StepsLies.{lies-count}
-use Rattle.history.specs.Changing.{changedOf, stepIn, Finds, replaced, PutsBack}
+use Rattle.history.specs.Changing.{changedOf, stepIn, Finds, withStored, PutsBack}
 use Rattle.history.specs.declared.Found.{Found}
 use Rattle.history.specs.LastStep.{LastStep}
 use Rattle.history.proofs.Stores.{Replaces, finds-numbers}
@@ -50,18 +50,18 @@ module _ (l : List ℕ) (r : ℕ) (y : Bytes l) (s : LastStep l r) (f : Found) (
   finds = subst (λ (g : Found). Finds book g cs) (sym is) (step-finds l r s)
 
   -- and drafts that took the segments turn stale
-  back-put : (m : List ℕ) → Replaces l m f → Lies m (replaced book cs)
+  back-put : (m : List ℕ) → Replaces l m f → Lies m (withStored book cs)
   back-put m puts = puts book (sound-lies l y (s .sound)) (book .issue) (length (book .segments)) (sound-book l y (s .sound) .drafts) cs finds
 
   -- ---- the step goes
   pub back-count : (m : List ℕ) → Replaces l m f → getD m 24 0 ≡ r + 1
-  back-count m puts = lies-count m (replaced book cs) (back-put m puts) ∙ step-count l r s
+  back-count m puts = lies-count m (withStored book cs) (back-put m puts) ∙ step-count l r s
 
   pub step-gone : (m m1 m2 : List ℕ) (c : Changed) → Replaces l m f → Pops m m1 → Seals m1 m2 → c ≡ changedOf f → PutsBack c m2 book cs
   step-gone m m1 m2 c puts pops seals says =
       record {
         says = ap segmentsSaid says ∙ sym (finds-numbers book f cs finds);
-        left = seals (undone book cs) (pops (replaced book cs) (back-put m puts) (omega (arith, step-count l r s)));
+        left = seals (undone book cs) (pops (withStored book cs) (back-put m puts) (omega (arith, step-count l r s)));
       }
 
 -- ---- the call

@@ -63,8 +63,8 @@ stepIn l r =
     (found.Two (getD l (32 + 2 * r) 0) (firstBefore r) (getD l (33 + 2 * r) 0) (secondBefore r))
 
 -- ---- in books
-abbrev pub copy : ℕ → Content → Copy
-copy s c = record { segment = s; held = c }
+abbrev pub heldCopy : ℕ → Content → Copy
+heldCopy s c = record { segment = s; held = c }
 
 -- a segment of the book, and a content for it that stands in a block
 pub record Stands (b : Book) (s from : ℕ) (c : Content) : Type 0 where
@@ -75,14 +75,14 @@ pub record Stands (b : Book) (s from : ℕ) (c : Content) : Type 0 where
 pub record FindsOne (b : Book) (s from : ℕ) (cs : List Copy) : Type 0 where
   pub content : Content
   pub stands : Stands b s from content
-  pub are : cs ≡ copy s content ∷ []
+  pub are : cs ≡ heldCopy s content ∷ []
 
 pub record FindsTwo (b : Book) (s from t other : ℕ) (cs : List Copy) : Type 0 where
   pub content : Content
   pub content2 : Content
   pub stands : Stands b s from content
   pub stands2 : Stands b t other content2
-  pub are : cs ≡ copy s content ∷ copy t content2 ∷ []
+  pub are : cs ≡ heldCopy s content ∷ heldCopy t content2 ∷ []
 
 -- the copies that were found
 abbrev pub Finds : Book → Found → List Copy → Type 0
@@ -91,8 +91,8 @@ Finds b (found.One s from) cs = FindsOne b s from cs
 Finds b (found.Two s from t other) cs = FindsTwo b s from t other cs
 
 -- the copies stored, those of a draft or of a step that goes back, and the drafts that took one of their segments stale; the steps are as they were
-abbrev pub replaced : Book → List Copy → Book
-replaced b cs = record { issue = b .issue; segments = stored cs (b .segments); drafts = map (staled cs) (b .drafts); history = b .history }
+abbrev pub withStored : Book → List Copy → Book
+withStored b cs = record { issue = b .issue; segments = stored cs (b .segments); drafts = map (staled cs) (b .drafts); history = b .history }
 
 -- what a commit answers and leaves
 pub record Leaves (r : Changed) (l : List ℕ) (b : Book) (d : ℕ) (cs : List Copy) : Type 0 where

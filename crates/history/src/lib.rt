@@ -13,7 +13,7 @@ ghost use Rattle.layout.specs.Sound.{FineDraft, Sound};
 ghost use Rattle.layout.specs.Tests.{isSound};
 ghost use Rattle.layout.specs.Lies.{Lies};
 ghost use Rattle.layout.specs.Rule.{Does};
-ghost use Rattle.history.specs.Changing.{changedOf, AllPlaced, differing, picked, changesIn, stepIn, Finds, replaced, Leaves, PutsBack};
+ghost use Rattle.history.specs.Changing.{changedOf, AllPlaced, differing, picked, changesIn, stepIn, Finds, withStored, Leaves, PutsBack};
 ghost use Rattle.moves.specs.Undo.{withSegments};
 ghost use Rattle.history.specs.LastStep.{LastStep};
 ghost use Rattle.steps.specs.Calls as calls;
@@ -59,7 +59,7 @@ fn put_blocks(book: &mut [u8], found: Found)
 // The same, and the drafts that took one of them turn stale.
 fn replace(book: &mut [u8], found: Found)
     requires { ⌜ (length (now book) ≡ bookLength) × AllPlaced blockCount found ⌝ }
-    ensures { λ _. ⌜ ((b : Book) → Lies (now (book .entry)) b → (issue n : ℕ) → All (FineDraft issue n) (b .drafts) → (cs : List Copy) → Finds b found cs → Lies (now (book .exit)) (replaced b cs)) ⌝ }
+    ensures { λ _. ⌜ ((b : Book) → Lies (now (book .entry)) b → (issue n : ℕ) → All (FineDraft issue n) (b .drafts) → (cs : List Copy) → Finds b found cs → Lies (now (book .exit)) (withStored b cs)) ⌝ }
 {
     put_blocks(book, found);
     let changed = segments(found);

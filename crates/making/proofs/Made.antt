@@ -13,7 +13,7 @@ use Rattle.lines.specs.Lines.{Line, linesOf, blank, isEnd, opens}
 use Rattle.codes.specs.Block.{Content, contentAt}
 use Rattle.reading.specs.Placed.{placedAt}
 use Rattle.reading.proofs.Placing.{placed-parts}
-use Rattle.bulletin.specs.Search.{fromFirst, later, closes}
+use Rattle.bulletin.specs.Search.{fromFirst, linesAfter, closes}
 use Rattle.bulletin.specs.Mnd.{pastMnd}
 use Rattle.bulletin.specs.Segments.{Segment, runsTo, pastPurge, opened, ninth, segmentsFrom, segmentsOf, fromLine3, firstLines, most, oneOrMore}
 use Rattle.bulletin.specs.Bulletin.{Bulletin, issued, readBulletin}
@@ -93,7 +93,7 @@ first-from text stop rs e =
     let third = from-later text _ (from-later text (linesOf text) all) in
     let below = from-later text _ (from-first text blank _ third) in
     let past = from-later text _ (from-first text closes _ below) in
-    from-line3 text (pastMnd (linesOf text)) past stop (later (later (linesOf text))) third rs e
+    from-line3 text (pastMnd (linesOf text)) past stop (linesAfter (linesAfter (linesOf text))) third rs e
 
 -- one segment or more
 pub record Some (gs hs : List Segment) : Type 0 where

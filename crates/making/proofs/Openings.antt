@@ -7,7 +7,7 @@ use lib.ListN.{length}
 use Rattle.laws.proofs.Tests.{by, by-order, apart, either-way}
 use Rattle.lines.specs.Lines.{Line, linesOf}
 use Rattle.lines.proofs.Ends.{nextOf, lineAt, lines-step, lines-last}
-use Rattle.bulletin.specs.Search.{fromFirst, later}
+use Rattle.bulletin.specs.Search.{fromFirst, linesAfter}
 use Rattle.bulletin.specs.Searching.{linesOn}
 
 -- ---- lines of a text
@@ -36,7 +36,7 @@ module _ (text : List ℕ) where
       record { here = ap (linesOn text) start ∙ sym (f .are); rest = record { at = nextOf text (f .at); are = after } })
       (λ h. let e : l ∷ ls ≡ [] = f .are ∙ lines-last text (f .at) h in apart cc)
 
-  pub from-later : (ls : List Line) → From ls → From (later ls)
+  pub from-later : (ls : List Line) → From ls → From (linesAfter ls)
   from-later [] f = f
   from-later (l ∷ ls) f = from-step l ls f .rest
 

@@ -46,7 +46,7 @@ use Rattle.making.proofs.Writing.{segment-most}
 use Rattle.bulletin.proofs.Saying.{by-then}
 use Rattle.making.proofs.Sounding.{must-true, made-issue, made-count, made-fine}
 use Rattle.sending.specs.Send.{editedRule}
-use Rattle.rereading.specs.Demand.{EditedAnswer, other-length, unsound, unread, stranger, no-room, written-out}
+use Rattle.rereading.specs.Demand.{EditedAnswer, other-length, unsound, unreadable, stranger, no-room, written-out}
 use Rattle.rereading.proofs.Demand.{edited-answers, edited-most}
 use Rattle.packing.specs.Packing.{pack, unpack, answered, packed, valueBits, nothing, noValue, plain, viewed, viewBits, viewBack, bbbBits, bbbBack, stormBits, stormBack}
 use Rattle.plugin.specs.Rules.{issueIn, countIn, bbbIn, identifierIn, stormBitsIn, viewBitsOf, blockEndOf, purgeMinuteOf, countOf, contentsOf, placeAnswer, placeIn}
@@ -325,7 +325,7 @@ unread-kept why place (no _ _) (low-no n p one most h) e =
 edited-kept : (text l : List ℕ) (room : ℕ) → Bytes l → (a : Answer (List ℕ)) → EditedAnswer text l room a → editedRule text l room ≡ a → Kept plain plain (lengthOf a)
 edited-kept text l room y _ (other-length t) e = refused-kept plain plain wrongLength 0 (omega arith)
 edited-kept text l room y _ (unsound t) e = refused-kept plain plain notSound 0 (omega arith)
-edited-kept text l room y _ (unread d why place t f) e =
+edited-kept text l room y _ (unreadable d why place t f) e =
     unread-kept why place (readBulletin text (d .year) (d .month)) (read-low text (d .year) (d .month)) f
 edited-kept text l room y _ (stranger d r t f g) e = refused-kept plain plain notBelonging 0 (omega arith)
 edited-kept text l room y _ (no-room out w h) e = refused-kept plain plain outputShort 0 (omega arith)

@@ -24,7 +24,7 @@ use Rattle.codes.specs.Block.{insertCovered, Read, block, wrongAt, ended, readF
 use Rattle.codes.proofs.Turns.{read-covers, read-purge, read-wrong}
 use Rattle.codes.proofs.Twice.{twice-covers, twice-purge, twice-wrong}
 use Rattle.reading.specs.Placed.{purgePlace, placedAt}
-use Rattle.bulletin.specs.Search.{fromFirst, upToFirst, later, closes}
+use Rattle.bulletin.specs.Search.{fromFirst, upToFirst, linesAfter, closes}
 use Rattle.bulletin.specs.Mnd.{pastMnd}
 use Rattle.bulletin.specs.Segments.{Segment, pastPurge, runsTo, oneOrMore, opened, ninth, segmentsFrom, fromLine3, firstLines, most, segmentsOf}
 use Rattle.packing.proofs.Kept.{reason-byte}
@@ -76,7 +76,7 @@ unfolding upToFirst
 up-within p all-nil = all-nil
 up-within {n} p (all-cons {x = l} f a) = either-way (All (Within n)) (p (l .body)) all-nil (all-cons f (up-within p a))
 
-pub later-within : {n : ℕ} {ls : List Line} → All (Within n) ls → All (Within n) (later ls)
+pub later-within : {n : ℕ} {ls : List Line} → All (Within n) ls → All (Within n) (linesAfter ls)
 later-within all-nil = all-nil
 later-within (all-cons f a) = a
 
@@ -320,4 +320,4 @@ module _ (text : List ℕ) (n : ℕ) (fits : length text ≤ n) where
       let all = text-within text (length text) (omega arith) in
       let third = later-within (later-within all) in
       let past = later-within (from-within closes (later-within (from-within blank third))) in
-      low-then _ (λ ls a. low-then _ some-low (segments-low most issue ls a)) (line3-low (pastMnd (linesOf text)) past (later (later (linesOf text))) third)
+      low-then _ (λ ls a. low-then _ some-low (segments-low most issue ls a)) (line3-low (pastMnd (linesOf text)) past (linesAfter (linesAfter (linesOf text))) third)

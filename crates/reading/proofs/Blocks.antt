@@ -24,7 +24,7 @@ use Rattle.codes.proofs.Bounds.{Below}
 use Rattle.codes.proofs.Steps.{readThen, read-step, Ahead, step-ahead}
 use Rattle.codes.proofs.Twice.{twiceThen, twice-step, Some, Both, gathered, before-gathered, gathered-before}
 use Rattle.reading.specs.Held.{vacant, placesFor, placesIn, Good, bareFor, blockFor}
-use Rattle.reading.specs.Runs.{capped, kept, heldBy, after, isOver, isTwice, holdsIn, Grown, Known, readOn, restOf, overFor}
+use Rattle.reading.specs.Runs.{capped, kept, heldBy, heldAfter, isOver, isTwice, holdsIn, Grown, Known, readOn, restOf, overFor}
 use Rattle.reading.specs.declared.Places.{Places}
 use Rattle.reading.specs.declared.Put.{Put}
 use Rattle.reading.specs.declared.Put.the-variants as put
@@ -170,7 +170,7 @@ module _ (s : List ℕ) (at : ℕ) (c : Cursor) (array : List ℕ) (count : ℕ)
           let f : placeOf p m + 1 - 1 ≡ placeOf p m = omega arith in
           w .twice ∙ ap₂ (λ (k : ℕ) (l : List ℕ). holdsIn (placeOf p n) k l) f (v .all) ∙ covered-held here (v .before) some-here (v .each)
 
-      held-now : isTwice x ≡ false → heldBy (isOver x) (after array′ count x) ≡ capped (gathered (here ∷ v .before))
+      held-now : isTwice x ≡ false → heldBy (isOver x) (heldAfter array′ count x) ≡ capped (gathered (here ∷ v .before))
       held-now t =
           let f : placeOf p m + 1 - placeOf p n ≡ suc m - n = omega arith in
           w .held t ∙ ap₂ (λ (k : ℕ) (l : List ℕ). capped (insertRun k (placeOf p n) l)) f (v .all) ∙ ap capped more-is

@@ -36,10 +36,10 @@ heldBy true t = none
 heldBy false t = some (placesIn t)
 
 -- what they hold after a run was put in: a new count, or what they held before
-abbrev pub after : List ℕ → ℕ → Put → Places
-after held count (put.Total n) = kept held n
-after held count put.Over = kept held count
-after held count put.Twice = kept held count
+abbrev pub heldAfter : List ℕ → ℕ → Put → Places
+heldAfter held count (put.Total n) = kept held n
+heldAfter held count put.Over = kept held count
+heldAfter held count put.Twice = kept held count
 
 abbrev pub isOver : Put → Bool
 isOver (put.Total n) = false
@@ -58,9 +58,9 @@ holdsIn low high (q ∷ qs) = (leb low q && leb q high) || holdsIn low high qs
 
 -- the places from p up to before q were put into the array `before`, which held `count`, unless one of them was held already or they would be too many
 pub record Grown (before : List ℕ) (count p q : ℕ) (array : List ℕ) (put : Put) : Type 0 where
-  pub good : Good (after array count put)
+  pub good : Good (heldAfter array count put)
   pub twice : isTwice put ≡ holdsIn p (q - 1) (take count before)
-  pub held : isTwice put ≡ false → heldBy (isOver put) (after array count put) ≡ capped (insertRun (q - p) p (take count before))
+  pub held : isTwice put ≡ false → heldBy (isOver put) (heldAfter array count put) ≡ capped (insertRun (q - p) p (take count before))
 
 -- every place of the list is less than p
 abbrev pub allBelow : ℕ → List ℕ → Bool

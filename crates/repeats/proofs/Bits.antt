@@ -9,40 +9,40 @@ use lib.Dec.{eqb}
 use lib.Pow.{pow-add, pow-mono, pow-pos, shl-lt, shl-shr, shr-shr, shr-le, high, low, field, mod-mod-pow, ones-lt, ones-split}
 use borrow.Author.Tests.{eqb-true, eqb-false}
 use Rattle.laws.proofs.Tests.{by, by-order, impossible}
-use Rattle.repeats.specs.Marks.{bit, Mask}
+use Rattle.repeats.specs.Marks.{bitAt, Mask}
 
 -- ---- `and`, `or`
-pub bit-low : (w i : ℕ) → bit w i ≤ 1
-unfolding bit
+pub bit-low : (w i : ℕ) → bitAt w i ≤ 1
+unfolding bitAt
 bit-low w i = omega arith
 
-and-bit : (a b i : ℕ) → bit (bitAnd a b) i ≡ min (bit a i) (bit b i)
-unfolding bit
+and-bit : (a b i : ℕ) → bitAt (bitAnd a b) i ≡ min (bitAt a i) (bitAt b i)
+unfolding bitAt
 and-bit a b i =
     ap (λ (x : ℕ). x % 2) (and-shr a b i ∙ and-step (a / 2 ^ i) (b / 2 ^ i))
     ∙ digits-mod (bitAnd (a / 2 ^ i / 2) (b / 2 ^ i / 2)) (omega arith)
 
-or-bit : (a b i : ℕ) → bit (bitOr a b) i ≡ max (bit a i) (bit b i)
-unfolding bit
+or-bit : (a b i : ℕ) → bitAt (bitOr a b) i ≡ max (bitAt a i) (bitAt b i)
+unfolding bitAt
 or-bit a b i =
     ap (λ (x : ℕ). x % 2) (or-shr a b i ∙ or-step (a / 2 ^ i) (b / 2 ^ i))
     ∙ digits-mod (bitOr (a / 2 ^ i / 2) (b / 2 ^ i / 2)) (omega arith)
 
-pub or-set : (a b i : ℕ) → bit b i ≡ 1 → bit (bitOr a b) i ≡ 1
+pub or-set : (a b i : ℕ) → bitAt b i ≡ 1 → bitAt (bitOr a b) i ≡ 1
 or-set a b i h = omega (arith, or-bit a b i, bit-low a i)
 
-pub or-kept : (a b i : ℕ) → bit b i ≡ 0 → bit (bitOr a b) i ≡ bit a i
+pub or-kept : (a b i : ℕ) → bitAt b i ≡ 0 → bitAt (bitOr a b) i ≡ bitAt a i
 or-kept a b i h = omega (arith, or-bit a b i)
 
 -- no bit in common, or one
-pub and-none : (a b i : ℕ) → bitAnd a b ≡ 0 → bit b i ≡ 1 → bit a i ≡ 0
-unfolding bit
+pub and-none : (a b i : ℕ) → bitAnd a b ≡ 0 → bitAt b i ≡ 1 → bitAt a i ≡ 0
+unfolding bitAt
 and-none a b i e h =
-    let z : bit (bitAnd a b) i ≡ 0 = rw e (omega (arith, shr-le 0 i)) in
+    let z : bitAt (bitAnd a b) i ≡ 0 = rw e (omega (arith, shr-le 0 i)) in
     omega (arith, and-bit a b i, bit-low a i)
 
-some-bit : (n : ℕ) → (n ≡ 0 → ⊥) → (i : ℕ) × (bit n i ≡ 1)
-unfolding bit
+some-bit : (n : ℕ) → (n ≡ 0 → ⊥) → (i : ℕ) × (bitAt n i ≡ 1)
+unfolding bitAt
 some-bit =
     bin-ind (λ (n : ℕ). (n ≡ 0 → ⊥) → (i : ℕ) × (n / 2 ^ i % 2 ≡ 1)) (λ h. impossible (h refl))
     λ n rest h. by (eqb (n / 2) 0)
@@ -52,8 +52,8 @@ some-bit =
 
 pub record Common (a b : ℕ) : Type 0 where
   pub place : ℕ
-  pub left : bit a place ≡ 1
-  pub right : bit b place ≡ 1
+  pub left : bitAt a place ≡ 1
+  pub right : bitAt b place ≡ 1
 
 pub and-some : (a b : ℕ) → (bitAnd a b ≡ 0 → ⊥) → Common a b
 and-some a b h =
@@ -68,8 +68,8 @@ ones-shift j k = ap (λ (x : ℕ). x / 2 ^ k) (ones-split j k) ∙ high (2 ^ j -
 ones-odd : (j : ℕ) → (2 ^ (j + 1) - 1) % 2 ≡ 1
 ones-odd j = ap (λ (x : ℕ). x % 2) (ones-split j 1) ∙ low (2 ^ j - 1) 1 (ones-lt 1)
 
-none-above : (w k i : ℕ) → w < 2 ^ k → k ≤ i → bit w i ≡ 0
-unfolding bit
+none-above : (w k i : ℕ) → w < 2 ^ k → k ≤ i → bitAt w i ≡ 0
+unfolding bitAt
 none-above w k i h l = ap (λ (x : ℕ). x % 2) (div-eq-of-lt (lt-of-lt-of-le h (pow-mono l)))
 
 -- n + 1 ones from bit f up
@@ -77,8 +77,8 @@ module _ (n f : ℕ) where
   abbrev ones : ℕ
   ones = 2 ^ (n + 1) - 1
 
-  ones-inside : (i : ℕ) → f ≤ i → i ≤ f + n → bit (ones * 2 ^ f) i ≡ 1
-  unfolding bit
+  ones-inside : (i : ℕ) → f ≤ i → i ≤ f + n → bitAt (ones * 2 ^ f) i ≡ 1
+  unfolding bitAt
   ones-inside i h k =
       let here : f + (i - f) ≡ i = omega arith in
       let more : (f + n - i + 1) + (i - f) ≡ n + 1 = omega arith in
@@ -88,8 +88,8 @@ module _ (n f : ℕ) where
       ∙ ap (λ (x : ℕ). x % 2) (ones-shift (f + n - i + 1) (i - f))
       ∙ ones-odd (f + n - i)
 
-  ones-below : (i : ℕ) → i < f → bit (ones * 2 ^ f) i ≡ 0
-  unfolding bit
+  ones-below : (i : ℕ) → i < f → bitAt (ones * 2 ^ f) i ≡ 0
+  unfolding bitAt
   ones-below i h =
       let d : ℕ = f - i - 1 in
       let here : suc d + i ≡ f = omega arith in
@@ -107,8 +107,8 @@ module _ (n f : ℕ) where
       }
 
 -- a word has 64 bits
-cut-bit : (w i : ℕ) → i ≤ 63 → bit (w % 2 ^ 64) i ≡ bit w i
-unfolding bit
+cut-bit : (w i : ℕ) → i ≤ 63 → bitAt (w % 2 ^ 64) i ≡ bitAt w i
+unfolding bitAt
 cut-bit w i h =
     let e : (63 - i + 1) + i ≡ 64 = omega arith in
     ap (λ (x : ℕ). w % 2 ^ x / 2 ^ i % 2) (sym e)

@@ -22,7 +22,7 @@ use Rattle.codes.specs.declared.Step.the-variants.{Covers, Purge, Wrong}
 use Rattle.codes.proofs.Bounds.{Below}
 use Rattle.codes.proofs.Steps.{Ahead, step-ahead}
 use Rattle.codes.proofs.Twice.{twiceThen, twice-step}
-use Rattle.repeats.specs.Passes.{behind, nearest, Covering, stretch, coveringsFrom, coverings, firstTwice}
+use Rattle.repeats.specs.Passes.{cursorBehind, nearest, Covering, stretch, coveringsFrom, coverings, firstTwice}
 
 coverings-none : (text : List ℕ) (c : Cursor) → coveringsFrom zero text c ≡ []
 unfolding coveringsFrom
@@ -34,7 +34,7 @@ covering at p n m = record { at = at; prefix = p; first = n; last = m }
 
 -- those from a step on, which stands at the place `at`
 abbrev pub coveringsThen : ℕ → List ℕ → ℕ → Step → List Covering
-coveringsThen k text at (Covers p n m next) = covering at p n m ∷ coveringsFrom k text (behind p next)
+coveringsThen k text at (Covers p n m next) = covering at p n m ∷ coveringsFrom k text (cursorBehind p next)
 coveringsThen k text at (Purge t place) = []
 coveringsThen k text at (Wrong place) = []
 
@@ -92,7 +92,7 @@ module _ (text : List ℕ) (c : Cursor) (v : Reading text c) where
     pub ahead : Ahead text c p n m next
     ahead = step-ahead text c p n m next (v .known) (sym e)
 
-    abbrev pub reading-on : Reading text (behind p next)
+    abbrev pub reading-on : Reading text (cursorBehind p next)
     reading-on =
         record {
           most = v .most - 1;
@@ -100,7 +100,7 @@ module _ (text : List ℕ) (c : Cursor) (v : Reading text c) where
           known = ahead .low .known;
         }
 
-    pub rest-covers : rest ≡ covering (c .at) p n m ∷ coveringsFrom (v .most - 1) text (behind p next)
+    pub rest-covers : rest ≡ covering (c .at) p n m ∷ coveringsFrom (v .most - 1) text (cursorBehind p next)
     rest-covers =
         let more : v .most ≡ suc (v .most - 1) = omega (arith, v .enough, ahead .inside) in
         ap (λ (k : ℕ). coveringsFrom k text c) more ∙ coverings-step (v .most - 1) text c (Covers p n m next) (sym e)
@@ -122,7 +122,7 @@ module _ (text : List ℕ) (at : ℕ) (c : Cursor) (v : Reading text c) (before 
     pub seeks-here : (these p && coveredBefore that before) ≡ true → some (c .at) ≡ firstTwice these [] (coverings text at)
     seeks-here t = sym (ap (firstTwice these before) (rest-covers text c v p n m next e) ∙ first-here these before (covering (c .at) p n m) _ t) ∙ s
 
-    pub seeks-on : (these p && coveredBefore that before) ≡ false → Seeks text at (behind p next) (reading-on text c v p n m next e) (that ∷ before) these
+    pub seeks-on : (these p && coveredBefore that before) ≡ false → Seeks text at (cursorBehind p next) (reading-on text c v p n m next e) (that ∷ before) these
     seeks-on t = sym (ap (firstTwice these before) (rest-covers text c v p n m next e) ∙ first-on these before (covering (c .at) p n m) _ t) ∙ s
 
 -- ---- all of them
@@ -144,7 +144,7 @@ ordered-read (suc k) text c b = by-step (stepAt text c) refl (ordered-read k tex
         → Ordered (c .at) (coveringsFrom (suc k) text c)
     by-step (Covers p n m next) e more =
         let a : Ahead text c p n m next = step-ahead text c p n m next b e in
-        let o : Ordered (next .at) (coveringsFrom k text (behind p next)) = more (behind p next) (a .low .known) in
+        let o : Ordered (next .at) (coveringsFrom k text (cursorBehind p next)) = more (cursorBehind p next) (a .low .known) in
         rw (coverings-step k text c (Covers p n m next) e)
         (ordered-cons (c .at) (covering (c .at) p n m) (omega arith) (a .low) (ordered-from (omega (arith, a .more)) o))
     by-step (Purge t place) e more = rw (coverings-step k text c (Purge t place) e) ordered-nil
@@ -175,7 +175,7 @@ module _ (these : ℕ → Bool) (all : (p : ℕ) → p < prefixes → these p �
           let s : Stretch = stretchOf p n m in
           rw (coverings-step k text c (Covers p n m next) e, all p (a .low .known))
           (ap (λ (x : Option ℕ). cond (coveredBefore s before) (some (c .at)) x)
-          (more (s ∷ before) (behind p next) (a .low .known) (omega (arith, a .more))))
+          (more (s ∷ before) (cursorBehind p next) (a .low .known) (omega (arith, a .more))))
       by-step (Purge t place) e more = rw (coverings-step k text c (Purge t place) e)
       by-step (Wrong place) e more = rw (coverings-step k text c (Wrong place) e)
 

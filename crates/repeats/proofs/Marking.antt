@@ -10,7 +10,7 @@ use lib.ListN.{length, getD, set, length-set}
 use lib.Seq.{getD-set-same, getD-set-other}
 use borrow.Author.Tests.{eqb-true, eqb-false, not-true, not-false, le-leb, lt-leb, lt-ltb, le-ltb}
 use Rattle.laws.proofs.Tests.{by, by-order, impossible, apart}
-use Rattle.repeats.specs.Marks.{window, between, bit, mark, Mask, Taken, Claimed, Claims, Noted}
+use Rattle.repeats.specs.Marks.{window, fromUpTo, bitAt, mark, Mask, Taken, Claimed, Claims, Noted}
 use Rattle.repeats.proofs.Bits.{Common, or-set, or-kept, and-none, and-some, allBits, mask-all, mask-both}
 
 -- ---- one word: its bits from f to t are the places from `at` to `to`
@@ -21,20 +21,20 @@ module _ (words : List ℕ) (k mask f t : ℕ) (m : Mask mask f t) (fits : k < l
   abbrev set-word : List ℕ
   set-word = set words k (bitOr word mask)
 
-  here : (i : ℕ) → i / 64 ≡ k → mark words i ≡ bit word (i % 64)
+  here : (i : ℕ) → i / 64 ≡ k → mark words i ≡ bitAt word (i % 64)
   unfolding mark
   here i e = rw e
 
-  set-here : (i : ℕ) → i / 64 ≡ k → mark set-word i ≡ bit (bitOr word mask) (i % 64)
+  set-here : (i : ℕ) → i / 64 ≡ k → mark set-word i ≡ bitAt (bitOr word mask) (i % 64)
   unfolding mark
-  set-here i e = rw e (ap (λ (x : ℕ). bit x (i % 64)) (getD-set-same words k (bitOr word mask) 0 fits))
+  set-here i e = rw e (ap (λ (x : ℕ). bitAt x (i % 64)) (getD-set-same words k (bitOr word mask) 0 fits))
 
   set-other : (i : ℕ) → (i / 64 ≡ k → ⊥) → mark set-word i ≡ mark words i
   unfolding mark
-  set-other i d = ap (λ (x : ℕ). bit x (i % 64)) (getD-set-other words k (i / 64) (bitOr word mask) 0 d)
+  set-other i d = ap (λ (x : ℕ). bitAt x (i % 64)) (getD-set-other words k (i / 64) (bitOr word mask) 0 d)
 
   -- a place whose bit the mask has not is as it was
-  set-kept : (i : ℕ) → (i / 64 ≡ k → bit mask (i % 64) ≡ 0) → mark set-word i ≡ mark words i
+  set-kept : (i : ℕ) → (i / 64 ≡ k → bitAt mask (i % 64) ≡ 0) → mark set-word i ≡ mark words i
   set-kept i h =
       by (eqb (i / 64) k)
       (λ e. let q = eqb-true (i / 64) k e in set-here i q ∙ or-kept word mask (i % 64) (h q) ∙ sym (here i q))
@@ -68,7 +68,7 @@ module _ (words : List ℕ) (k mask f t : ℕ) (m : Mask mask f t) (fits : k < l
           place = k * 64 + j;
           low = omega arith;
           high = omega arith;
-          marked = sym (v .above (k * 64 + j) (omega arith)) ∙ here (k * 64 + j) (omega arith) ∙ ap (bit word) r ∙ c .left;
+          marked = sym (v .above (k * 64 + j) (omega arith)) ∙ here (k * 64 + j) (omega arith) ∙ ap (bitAt word) r ∙ c .left;
         }
 
     word-claims : (hit : Bool) → hit ≡ not (eqb (bitAnd word mask) 0) → Claims before from to set-word hit
@@ -148,7 +148,7 @@ module _ (before : List ℕ) (from to : ℕ) (marks : List ℕ) (k mask : ℕ) (
 
 -- ---- one element
 module _ (low p n m : ℕ) (before : List ℕ) where
-  outside : between low (low + window) p ≡ false → Noted low p n m before before false
+  outside : fromUpTo low (low + window) p ≡ false → Noted low p n m before before false
   outside u = record { inside = λ y. apart cc; missed = λ f. refl; kept = λ f. refl }
 
   pub noted-below : p < low → Noted low p n m before before false
@@ -161,5 +161,5 @@ module _ (low p n m : ℕ) (before : List ℕ) where
     pub noted-in : p - low < window → (from to : ℕ) → from ≡ (p - low) * 1000 + n → to ≡ (p - low) * 1000 + m
         → (after : List ℕ) (hit : Bool) → Claims before from to after hit → Noted low p n m before after hit
     noted-in h from to e q after hit v =
-        let u : between low (low + window) p ≡ true = rw (le-leb low p l, lt-ltb p (low + window) (omega arith)) in
+        let u : fromUpTo low (low + window) p ≡ true = rw (le-leb low p l, lt-ltb p (low + window) (omega arith)) in
         record { inside = λ y. rw (← e, ← q) v; missed = λ f. apart cc; kept = λ f. apart cc }

@@ -9,7 +9,7 @@ use borrow.Author.Tests.{le-leb, lt-leb, lt-ltb, le-ltb}
 use Rattle.laws.proofs.Tests.{by, by-order, apart}
 use Rattle.codes.specs.Places.{prefixes}
 use Rattle.codes.specs.Block.{Stretch, coveredBefore, twiceAt}
-use Rattle.repeats.specs.Marks.{window, between}
+use Rattle.repeats.specs.Marks.{window, fromUpTo}
 use Rattle.repeats.specs.Passes.{paperTwice, earlier, Covering, stretch, coverings, firstTwice}
 use Rattle.repeats.specs.declared.Twice.{Twice}
 use Rattle.repeats.specs.declared.Twice.the-variants.{At, Nothing}
@@ -78,28 +78,28 @@ module _ (f g both : ℕ → Bool) (joined : (p : ℕ) → both p ≡ (f p || g 
   split at before (x ∷ xs) (ordered-cons _ _ l w o) = split-one at before x xs (ordered-cons at x l w o) (split (x .at) (stretch x ∷ before) xs o)
 
 -- ---- window after window: all prefixes below `low` have been asked for
-joined : (low next p : ℕ) → low ≤ next → between 0 next p ≡ (between 0 low p || between low next p)
+joined : (low next p : ℕ) → low ≤ next → fromUpTo 0 next p ≡ (fromUpTo 0 low p || fromUpTo low next p)
 joined low next p h =
     by-order p low
     (λ k. rw (le-leb 0 p (omega arith), lt-ltb p low k, lt-ltb p next (omega arith)))
     λ k. rw (le-leb 0 p (omega arith), le-ltb p low k, le-leb low p k)
 
 pub record Asked (text : List ℕ) (at low : ℕ) (best : Twice) : Type 0 where
-  pub so-far : paperTwice best ≡ firstTwice (between 0 low) [] (coverings text at)
+  pub so-far : paperTwice best ≡ firstTwice (fromUpTo 0 low) [] (coverings text at)
 
-pub asked-start : (text : List ℕ) (at lowest : ℕ) → none ≡ firstTwice (between 0 lowest) [] (coverings text at) → Asked text at lowest Nothing
+pub asked-start : (text : List ℕ) (at lowest : ℕ) → none ≡ firstTwice (fromUpTo 0 lowest) [] (coverings text at) → Asked text at lowest Nothing
 asked-start text at lowest e = record { so-far = e }
 
 module _ (text : List ℕ) (at low : ℕ) (best : Twice) (v : Asked text at low best) where
-  pub asked-on : (next : ℕ) → low + window ≤ next → (found : Twice) → paperTwice found ≡ firstTwice (between low next) [] (coverings text at)
+  pub asked-on : (next : ℕ) → low + window ≤ next → (found : Twice) → paperTwice found ≡ firstTwice (fromUpTo low next) [] (coverings text at)
       → (r : Twice) → paperTwice r ≡ earlier (paperTwice best) (paperTwice found) → Asked text at next r
   asked-on next h found ef r er =
-      let both : (p : ℕ) → between 0 next p ≡ (between 0 low p || between low next p) = λ p. joined low next p (omega arith) in
+      let both : (p : ℕ) → fromUpTo 0 next p ≡ (fromUpTo 0 low p || fromUpTo low next p) = λ p. joined low next p (omega arith) in
       record {
         so-far =
             er ∙ ap₂ earlier (v .so-far) ef
-            ∙ sym (split (between 0 low) (between low next) (between 0 next) both at [] (coverings text at) (coverings-ordered text at));
+            ∙ sym (split (fromUpTo 0 low) (fromUpTo low next) (fromUpTo 0 next) both at [] (coverings text at) (coverings-ordered text at));
       }
 
   pub asked-done : prefixes ≤ low → paperTwice best ≡ twiceAt text at
-  asked-done h = v .so-far ∙ first-all (between 0 low) (λ p k. rw (le-leb 0 p (omega arith), lt-ltb p low (omega arith))) text at
+  asked-done h = v .so-far ∙ first-all (fromUpTo 0 low) (λ p k. rw (le-leb 0 p (omega arith), lt-ltb p low (omega arith))) text at

@@ -20,8 +20,8 @@ use Rattle.codes.specs.declared.Cursor.{Cursor}
 use Rattle.codes.specs.declared.Step.{Step}
 use Rattle.codes.proofs.Steps.{Ahead}
 use Rattle.codes.proofs.Twice.{Some, Both, before-gathered, gathered-before}
-use Rattle.repeats.specs.Marks.{window, windowWords, between, bit, mark, Noted}
-use Rattle.repeats.specs.Passes.{behind, nearest, coverings, firstTwice}
+use Rattle.repeats.specs.Marks.{window, windowWords, fromUpTo, bitAt, mark, Noted}
+use Rattle.repeats.specs.Passes.{cursorBehind, nearest, coverings, firstTwice}
 use Rattle.repeats.proofs.Elements.{Reading, rest, start, reading-start, rest-purge, rest-wrong, ahead, reading-on}
 use Rattle.repeats.proofs.Elements.{Seeks, seeks-none, seeks-here, seeks-on, Nearer, nearer-is}
 
@@ -63,7 +63,7 @@ is-covered true e = refl
 is-covered false e = impossible (omega arith)
 
 marked-start : (low : ℕ) → Marked low [] (replicate windowWords 0)
-unfolding mark bit coveredBefore
+unfolding mark bitAt coveredBefore
 marked-start low =
     record {
       long = length-replicate {A = ℕ} windowWords 0;
@@ -71,16 +71,16 @@ marked-start low =
     }
 
 -- a prefix that is not in the window
-beside : {P : Type 0} (low p : ℕ) → between low (low + window) p ≡ false → (p < low → P) → (low + window ≤ p → P) → P
+beside : {P : Type 0} (low p : ℕ) → fromUpTo low (low + window) p ≡ false → (p < low → P) → (low + window ≤ p → P) → P
 beside low p u f g =
     by-order p low f
-    λ a. by-order p (low + window) (λ b. let t : between low (low + window) p ≡ true = rw (le-leb low p a, lt-ltb p (low + window) b) in apart cc) g
+    λ a. by-order p (low + window) (λ b. let t : fromUpTo low (low + window) p ≡ true = rw (le-leb low p a, lt-ltb p (low + window) b) in apart cc) g
 
 -- ---- one element, with the stretches before it and the marks after it
 record Met (low p n m : ℕ) (before : List Stretch) (after : List ℕ) (hit : Bool) : Type 0 where
   marked : hit ≡ false → Marked low (stretchOf p n m ∷ before) after
-  again : hit ≡ true → (between low (low + window) p && coveredBefore (stretchOf p n m) before) ≡ true
-  passes : hit ≡ false → (k : ℕ) → (low + window ≤ p → k ≤ p) → (between low k p && coveredBefore (stretchOf p n m) before) ≡ false
+  again : hit ≡ true → (fromUpTo low (low + window) p && coveredBefore (stretchOf p n m) before) ≡ true
+  passes : hit ≡ false → (k : ℕ) → (low + window ≤ p → k ≤ p) → (fromUpTo low k p && coveredBefore (stretchOf p n m) before) ≡ false
 
 module _ (low p n m : ℕ) (w : Low p n m) (before : List Stretch) (marks : List ℕ) (v : Marked low before marks) where
   abbrev this : Stretch
@@ -97,7 +97,7 @@ module _ (low p n m : ℕ) (w : Low p n m) (before : List Stretch) (marks : List
   over-this i a = rw (lt-leb (low * 1000 + i) (placeOf p m) a)
 
   -- an element in another window
-  marked-past : between low (low + window) p ≡ false → Marked low (this ∷ before) marks
+  marked-past : fromUpTo low (low + window) p ≡ false → Marked low (this ∷ before) marks
   unfolding coveredBefore
   marked-past u = record { long = v .long; same = λ i h. rw (apart-from i h) (v .same i h) }
     where
@@ -106,7 +106,7 @@ module _ (low p n m : ℕ) (w : Low p n m) (before : List Stretch) (marks : List
           beside low p u (λ a. over-this i (omega (arith, w .number))) (λ a. under-this i (omega arith))
 
   module _ (after : List ℕ) (hit : Bool) (r : Noted low p n m marks after hit) (s : All Some before) where
-    module _ (u : between low (low + window) p ≡ true) where
+    module _ (u : fromUpTo low (low + window) p ≡ true) where
       from-low : low ≤ p
       from-low = leb-true low p (and-left (leb low p) (ltb p (low + window)) u)
 
@@ -150,18 +150,18 @@ module _ (low p n m : ℕ) (w : Low p n m) (before : List Stretch) (marks : List
           }
 
     marked-on : hit ≡ false → Marked low (this ∷ before) after
-    marked-on t = by (between low (low + window) p) (λ u. marked-in u t) (λ u. rw (r .kept u) (marked-past u))
+    marked-on t = by (fromUpTo low (low + window) p) (λ u. marked-in u t) (λ u. rw (r .kept u) (marked-past u))
 
     -- it covers a place already covered
-    again : hit ≡ true → (between low (low + window) p && coveredBefore this before) ≡ true
+    again : hit ≡ true → (fromUpTo low (low + window) p && coveredBefore this before) ≡ true
     again t =
-        by (between low (low + window) p) (λ u. rw (u, claim-hit u t))
+        by (fromUpTo low (low + window) p) (λ u. rw (u, claim-hit u t))
         λ u. let f : true ≡ false = sym t ∙ r .missed u in apart cc
 
     -- it does not, or lies outside the window, and not between that and k
-    passes : hit ≡ false → (k : ℕ) → (low + window ≤ p → k ≤ p) → (between low k p && coveredBefore this before) ≡ false
+    passes : hit ≡ false → (k : ℕ) → (low + window ≤ p → k ≤ p) → (fromUpTo low k p && coveredBefore this before) ≡ false
     passes t k h =
-        by (between low (low + window) p) (λ u. rw (claim-free u t) (and-false (between low k p)))
+        by (fromUpTo low (low + window) p) (λ u. rw (claim-free u t) (and-false (fromUpTo low k p)))
         λ u. beside low p u (λ a. rw (lt-leb low p a)) (λ a. rw (le-ltb p k (h a), and-false (leb low p)))
 
     met : Met low p n m before after hit
@@ -174,7 +174,7 @@ pub record Passing (text : List ℕ) (at low : ℕ) (c : Cursor) (next : ℕ) (m
   pub some-each : All Some before
   pub marked : Marked low before marks
   pub from : low + window ≤ next
-  pub same : (k : ℕ) → low + window ≤ k → k ≤ next → Seeks text at c reading before (between low k)
+  pub same : (k : ℕ) → low + window ≤ k → k ≤ next → Seeks text at c reading before (fromUpTo low k)
 
 pub passing-start : (text : List ℕ) (at low : ℕ) → low ≤ prefixes → Passing text at low (start at) (prefixes + window) (replicate windowWords 0)
 passing-start text at low h =
@@ -195,13 +195,13 @@ module _ (text : List ℕ) (at low : ℕ) (c : Cursor) (next : ℕ) (marks : Lis
   passing-from = v .from
 
   module _ (y : Step) (e : y ≡ stepAt text c) where
-    seeks-nothing : rest text c (v .reading) ≡ [] → none ≡ firstTwice (between low next) [] (coverings text at)
-    seeks-nothing z = seeks-none text at c (v .reading) (v .before) (between low next) (v .same next (v .from) (omega arith)) z
+    seeks-nothing : rest text c (v .reading) ≡ [] → none ≡ firstTwice (fromUpTo low next) [] (coverings text at)
+    seeks-nothing z = seeks-none text at c (v .reading) (v .before) (fromUpTo low next) (v .same next (v .from) (omega arith)) z
 
-    pub passing-purge : (t : Stamp) (place : ℕ) → y ≡ Step.Purge t place → none ≡ firstTwice (between low next) [] (coverings text at)
+    pub passing-purge : (t : Stamp) (place : ℕ) → y ≡ Step.Purge t place → none ≡ firstTwice (fromUpTo low next) [] (coverings text at)
     passing-purge t place q = seeks-nothing (rest-purge text c (v .reading) t place (sym q ∙ e))
 
-    pub passing-wrong : (place : ℕ) → y ≡ Step.Wrong place → none ≡ firstTwice (between low next) [] (coverings text at)
+    pub passing-wrong : (place : ℕ) → y ≡ Step.Wrong place → none ≡ firstTwice (fromUpTo low next) [] (coverings text at)
     passing-wrong place q = seeks-nothing (rest-wrong text c (v .reading) place (sym q ∙ e))
 
     module _ (p n m : ℕ) (past : Cursor) (q : y ≡ Step.Covers p n m past) where
@@ -218,12 +218,12 @@ module _ (text : List ℕ) (at low : ℕ) (c : Cursor) (next : ℕ) (marks : Lis
         this-met : Met low p n m (v .before) after hit
         this-met = met low p n m passing-low (v .before) marks (v .marked) after hit r (v .some-each)
 
-        pub passing-hit : hit ≡ true → some (c .at) ≡ firstTwice (between low (low + window)) [] (coverings text at)
+        pub passing-hit : hit ≡ true → some (c .at) ≡ firstTwice (fromUpTo low (low + window)) [] (coverings text at)
         passing-hit t =
-            seeks-here text at c (v .reading) (v .before) (between low (low + window)) (v .same (low + window) (omega arith) (v .from))
+            seeks-here text at c (v .reading) (v .before) (fromUpTo low (low + window)) (v .same (low + window) (omega arith) (v .from))
             p n m past (sym q ∙ e) (this-met .again t)
 
-        pub passing-on : hit ≡ false → (next′ : ℕ) → next′ ≡ nearest next (low + window) p → Passing text at low (behind p past) next′ after
+        pub passing-on : hit ≡ false → (next′ : ℕ) → next′ ≡ nearest next (low + window) p → Passing text at low (cursorBehind p past) next′ after
         passing-on t next′ en =
             let near : Nearer next (low + window) p next′ = nearer-is next (low + window) p next′ en in
             let some-place : Some (stretchOf p n m) = record { order = omega (arith, passing-low .order) } in
@@ -234,6 +234,6 @@ module _ (text : List ℕ) (at low : ℕ) (c : Cursor) (next : ℕ) (marks : Lis
               marked = this-met .marked t;
               from = near .from (v .from);
               same = λ k l g.
-                  seeks-on text at c (v .reading) (v .before) (between low k) (v .same k l (omega (arith, near .low)))
+                  seeks-on text at c (v .reading) (v .before) (fromUpTo low k) (v .same k l (omega (arith, near .low)))
                   p n m past (sym q ∙ e) (this-met .passes t k (λ h. omega (arith, near .past h)));
             }

@@ -20,8 +20,8 @@ use Rattle.codes.specs.Cursor.{stepAt}
 use Rattle.codes.specs.declared.Cursor.{Cursor}
 use Rattle.codes.specs.declared.Step.{Step}
 use Rattle.codes.proofs.Steps.{Ahead}
-use Rattle.repeats.specs.Marks.{window, between}
-use Rattle.repeats.specs.Passes.{behind, nearest, Covering, stretch, coverings, Way, up, down, beyond, edgeOf, onward, rising, falling, firstTwice}
+use Rattle.repeats.specs.Marks.{window, fromUpTo}
+use Rattle.repeats.specs.Passes.{cursorBehind, nearest, Covering, stretch, coverings, Way, up, down, beyond, edgeOf, onward, rising, falling, firstTwice}
 use Rattle.repeats.proofs.Elements.{Reading, rest, start, reading-start, rest-purge, rest-wrong, rest-covers, ahead, reading-on}
 use Rattle.repeats.proofs.Elements.{Seeks, seeks-none, seeks-on}
 use Rattle.repeats.proofs.Elements.{Ordered, ordered-nil, ordered-cons, coverings-ordered, first-all, Nearer, nearer-is}
@@ -81,7 +81,7 @@ module _ (text : List ℕ) (at : ℕ) (c : Cursor) (v : Reading text c) (way : W
   onward-none z = sym (and-true so-far) ∙ ap (λ (xs : List Covering). so-far && onward way edge xs) (sym z) ∙ s
 
   onward-on : (p n m : ℕ) (next : Cursor) (e : Step.Covers p n m next ≡ stepAt text c)
-      → Onward text at (behind p next) (reading-on text c v p n m next e) way from (so-far && beyond way edge (stretchOf p n m)) (edgeOf way (stretchOf p n m))
+      → Onward text at (cursorBehind p next) (reading-on text c v p n m next e) way from (so-far && beyond way edge (stretchOf p n m)) (edgeOf way (stretchOf p n m))
   unfolding onward
   onward-on p n m next e =
       and-assoc so-far (beyond way edge (stretchOf p n m)) _
@@ -94,7 +94,7 @@ pub record Outlined (text : List ℕ) (at : ℕ) (c : Cursor) (rises falls : Boo
   pub rise : Onward text at c reading up 0 rises high
   pub fall : Onward text at c reading down placesEnd falls low
   pub before : List Stretch
-  pub quiet : (n : ℕ) → n ≤ lowest → Seeks text at c reading before (between 0 n)
+  pub quiet : (n : ℕ) → n ≤ lowest → Seeks text at c reading before (fromUpTo 0 n)
 
 pub outlined-start : (text : List ℕ) (at : ℕ) → Outlined text at (start at) true true 0 placesEnd (prefixes + window)
 outlined-start text at = record { reading = reading-start text at; rise = refl; fall = refl; before = []; quiet = λ n h. refl }
@@ -107,8 +107,8 @@ module _ (text : List ℕ) (at : ℕ) (c : Cursor) (rises falls : Bool) (high lo
   fall-none : rest text c (v .reading) ≡ [] → falls ≡ falling (coverings text at)
   fall-none z = onward-none text at c (v .reading) down placesEnd falls low (v .fall) z
 
-  quiet-none : rest text c (v .reading) ≡ [] → none ≡ firstTwice (between 0 lowest) [] (coverings text at)
-  quiet-none z = seeks-none text at c (v .reading) (v .before) (between 0 lowest) (v .quiet lowest (omega arith)) z
+  quiet-none : rest text c (v .reading) ≡ [] → none ≡ firstTwice (fromUpTo 0 lowest) [] (coverings text at)
+  quiet-none z = seeks-none text at c (v .reading) (v .before) (fromUpTo 0 lowest) (v .quiet lowest (omega arith)) z
 
   module _ (t : Stamp) (place : ℕ) (q : y ≡ Step.Purge t place) where
     pub rise-purge : rises ≡ rising (coverings text at)
@@ -117,7 +117,7 @@ module _ (text : List ℕ) (at : ℕ) (c : Cursor) (rises falls : Bool) (high lo
     pub fall-purge : falls ≡ falling (coverings text at)
     fall-purge = fall-none (rest-purge text c (v .reading) t place (sym q ∙ e))
 
-    pub quiet-purge : none ≡ firstTwice (between 0 lowest) [] (coverings text at)
+    pub quiet-purge : none ≡ firstTwice (fromUpTo 0 lowest) [] (coverings text at)
     quiet-purge = quiet-none (rest-purge text c (v .reading) t place (sym q ∙ e))
 
   module _ (place : ℕ) (q : y ≡ Step.Wrong place) where
@@ -127,7 +127,7 @@ module _ (text : List ℕ) (at : ℕ) (c : Cursor) (rises falls : Bool) (high lo
     pub fall-wrong : falls ≡ falling (coverings text at)
     fall-wrong = fall-none (rest-wrong text c (v .reading) place (sym q ∙ e))
 
-    pub quiet-wrong : none ≡ firstTwice (between 0 lowest) [] (coverings text at)
+    pub quiet-wrong : none ≡ firstTwice (fromUpTo 0 lowest) [] (coverings text at)
     quiet-wrong = quiet-none (rest-wrong text c (v .reading) place (sym q ∙ e))
 
   module _ (p n m : ℕ) (next : Cursor) (q : y ≡ Step.Covers p n m next) where
@@ -150,7 +150,7 @@ module _ (text : List ℕ) (at : ℕ) (c : Cursor) (rises falls : Bool) (high lo
     outlined-end = omega (arith, this-ahead .low .known, this-ahead .low .number)
 
     pub outlined-on : (lower : ℕ) → lower ≡ nearest lowest 0 p
-        → Outlined text at (behind p next) (rises && leb high (p * 1000 + n)) (falls && ltb (p * 1000 + m) low) (p * 1000 + m + 1) (p * 1000 + n) lower
+        → Outlined text at (cursorBehind p next) (rises && leb high (p * 1000 + n)) (falls && ltb (p * 1000 + m) low) (p * 1000 + m + 1) (p * 1000 + n) lower
     outlined-on lower el =
         let near : Nearer lowest 0 p lower = nearer-is lowest 0 p lower el in
         record {
@@ -159,6 +159,6 @@ module _ (text : List ℕ) (at : ℕ) (c : Cursor) (rises falls : Bool) (high lo
           fall = onward-on text at c (v .reading) down placesEnd falls low (v .fall) p n m next (sym q ∙ e);
           before = stretchOf p n m ∷ v .before;
           quiet = λ k h. let away : ltb p k ≡ false = le-ltb p k (omega (arith, near .past (omega arith))) in
-              seeks-on text at c (v .reading) (v .before) (between 0 k) (v .quiet k (omega (arith, near .low)))
+              seeks-on text at c (v .reading) (v .before) (fromUpTo 0 k) (v .quiet k (omega (arith, near .low)))
               p n m next (sym q ∙ e) (rw (away, and-false (leb 0 p)));
         }

@@ -14,22 +14,22 @@ abbrev pub windowWords : ℕ
 windowWords = 4235
 
 -- the prefixes from one up to another
-abbrev pub between : ℕ → ℕ → ℕ → Bool
-between low end p = leb low p && ltb p end
+abbrev pub fromUpTo : ℕ → ℕ → ℕ → Bool
+fromUpTo low end p = leb low p && ltb p end
 
 -- a digit of a word in the system of two, from the lowest up
-unfoldable pub bit : ℕ → ℕ → ℕ
-bit word i = word / 2 ^ i % 2
+unfoldable pub bitAt : ℕ → ℕ → ℕ
+bitAt word i = word / 2 ^ i % 2
 
 -- 1 if place i is marked, 0 if it is not
 unfoldable pub mark : List ℕ → ℕ → ℕ
-mark words i = bit (getD words (i / 64) 0) (i % 64)
+mark words i = bitAt (getD words (i / 64) 0) (i % 64)
 
 -- of a word's bits, those from one to another are 1, and no others
 pub record Mask (word from to : ℕ) : Type 0 where
-  pub inside : (i : ℕ) → from ≤ i → i ≤ to → bit word i ≡ 1
-  pub below : (i : ℕ) → i < from → bit word i ≡ 0
-  pub above : (i : ℕ) → to < i → bit word i ≡ 0
+  pub inside : (i : ℕ) → from ≤ i → i ≤ to → bitAt word i ≡ 1
+  pub below : (i : ℕ) → i < from → bitAt word i ≡ 0
+  pub above : (i : ℕ) → to < i → bitAt word i ≡ 0
 
 -- a marked place, from one to another
 pub record Taken (words : List ℕ) (from to : ℕ) : Type 0 where
@@ -53,6 +53,6 @@ pub record Claims (before : List ℕ) (from to : ℕ) (after : List ℕ) (hit : 
 
 -- The places of an element in the window are claimed. Any other element changes nothing.
 pub record Noted (low p n m : ℕ) (before after : List ℕ) (hit : Bool) : Type 0 where
-  pub inside : between low (low + window) p ≡ true → Claims before ((p - low) * 1000 + n) ((p - low) * 1000 + m) after hit
-  pub missed : between low (low + window) p ≡ false → hit ≡ false
-  pub kept : between low (low + window) p ≡ false → after ≡ before
+  pub inside : fromUpTo low (low + window) p ≡ true → Claims before ((p - low) * 1000 + n) ((p - low) * 1000 + m) after hit
+  pub missed : fromUpTo low (low + window) p ≡ false → hit ≡ false
+  pub kept : fromUpTo low (low + window) p ≡ false → after ≡ before

@@ -41,15 +41,15 @@ abbrev pub stretch : Covering → Stretch
 stretch x = stretchOf (x .prefix) (x .first) (x .last)
 
 -- the reading place behind an element under the prefix p
-abbrev pub behind : ℕ → Cursor → Cursor
-behind p next = record { at = next .at; last = last.Prefix p }
+abbrev pub cursorBehind : ℕ → Cursor → Cursor
+cursorBehind p next = record { at = next .at; last = last.Prefix p }
 
 -- from a reading place on, so many at most
 unfoldable pub coveringsFrom : ℕ → List ℕ → Cursor → List Covering
 coveringsFrom zero text c = []
 coveringsFrom (suc k) text c =
     elim (stepAt text c) [
-      | Covers p n m next ↦ record { at = c .at; prefix = p; first = n; last = m } ∷ coveringsFrom k text (behind p next)
+      | Covers p n m next ↦ record { at = c .at; prefix = p; first = n; last = m } ∷ coveringsFrom k text (cursorBehind p next)
       | Purge t place ↦ []
       | Wrong place ↦ []
     ]

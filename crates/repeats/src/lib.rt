@@ -10,7 +10,7 @@ ghost use lib.ListN.{length, getD, set};
 ghost use Rattle.codes.specs.Places.{prefixes};
 ghost use Rattle.codes.specs.Serving.{Low};
 ghost use Rattle.codes.specs.Block.{twiceAt};
-ghost use Rattle.repeats.specs.Marks.{window, windowWords, between, Mask, Claims, Noted};
+ghost use Rattle.repeats.specs.Marks.{window, windowWords, fromUpTo, Mask, Claims, Noted};
 ghost use Rattle.repeats.specs.Passes.{paperTwice, earlier, nearest, coverings, rising, falling, firstTwice};
 use codes::Cursor;
 use codes::Last;
@@ -134,7 +134,7 @@ fn nearer(next: usize, end: usize, prefix: usize) -> usize
 // between the window and `next`.
 fn twice_under(text: &[u8], at: usize, low: usize) -> Pass
     requires { ⌜ low ≤ prefixes ⌝ }
-    ensures is { λ r. ⌜ paperTwice (r .found) ≡ firstTwice (between low (r .next)) [] (coverings (now (text .entry)) at) ⌝ }
+    ensures is { λ r. ⌜ paperTwice (r .found) ≡ firstTwice (fromUpTo low (r .next)) [] (coverings (now (text .entry)) at) ⌝ }
     ensures more { λ r. ⌜ low + window ≤ r .next ⌝ }
 {
     let end = low + WINDOW;
@@ -190,7 +190,7 @@ fn first_of(a: Twice, b: Twice) -> Twice
 fn survey(text: &[u8], at: usize) -> Outline
     ensures up { λ r. ⌜ r .rises ≡ rising (coverings (now (text .entry)) at) ⌝ }
     ensures down { λ r. ⌜ r .falls ≡ falling (coverings (now (text .entry)) at) ⌝ }
-    ensures quiet { λ r. ⌜ none ≡ firstTwice (between 0 (r .lowest)) [] (coverings (now (text .entry)) at) ⌝ }
+    ensures quiet { λ r. ⌜ none ≡ firstTwice (fromUpTo 0 (r .lowest)) [] (coverings (now (text .entry)) at) ⌝ }
 {
     let mut seen = Outline {
         rises: true,

@@ -14,7 +14,7 @@ use Rattle.refusal.specs.Answer.{Answer, ok, refused, andThen}
 use Rattle.lines.specs.Lines.{bodyOf, blank, opens, Line, linesAt}
 use Rattle.codes.specs.Block.{Content}
 use Rattle.codes.specs.Written.{inOrder}
-use Rattle.bulletin.specs.Search.{fromFirst, later, afterFirst, closes}
+use Rattle.bulletin.specs.Search.{fromFirst, linesAfter, afterFirst, closes}
 use Rattle.bulletin.specs.Segments.{Segment, fromLine3, firstLines, segmentsFrom, segmentsOf, most, oneOrMore}
 use Rattle.bulletin.proofs.Saying.{by-then, ok-one}
 use Rattle.making.proofs.Made.{some-same}
@@ -37,7 +37,7 @@ some-is end (g ∷ gs) h = refl
 after-found : (p : List ℕ → Bool) (at : ℕ) {fs : List (List ℕ)} (d : List ℕ) (xs : List (List ℕ)) → All (No p) fs → p (bodyOf d) ≡ true
     → afterFirst p (linesAt at (fs ++ (d ∷ xs))) ≡ linesAt (at + length (inOrder fs) + length d) xs
 unfolding linesAt
-after-found p at {fs} d xs a h = ap later (pass p at a (d ∷ xs) ∙ stop p (at + length (inOrder fs)) d xs h)
+after-found p at {fs} d xs a h = ap linesAfter (pass p at a (d ∷ xs) ∙ stop p (at + length (inOrder fs)) d xs h)
 
 -- ---- what is below line 2
 module _ (issue : ℕ) (one two : List ℕ) where
@@ -173,7 +173,7 @@ module _ (issue : ℕ) (one two : List ℕ) where
         → segmentsFrom most text issue (afterFirst closes (linesAt (third + length p) ps)) ≡ ok gs → Below text (p ∷ ps) gs cs blocks
     unfolding segmentsFrom fromFirst past
     closed-below p ps f t b (missing a) e =
-        let n : ok [] ≡ ok gs = ap (λ (ls : List Line). segmentsFrom most text issue (later ls)) (sym (pass-all closes (third + length p) a)) ∙ e in
+        let n : ok [] ≡ ok gs = ap (λ (ls : List Line). segmentsFrom most text issue (linesAfter ls)) (sym (pass-all closes (third + length p) a)) ∙ e in
         let z : [] ≡ gs = ok-one [] gs n in
         impossible (omega (arith, ap (λ (x : List Segment). length x) z))
     closed-below p ps f t b (found fs d xs q nf nd) e =

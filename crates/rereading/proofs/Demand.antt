@@ -28,7 +28,7 @@ use Rattle.layout.proofs.SoundBack.{sound-book}
 use Rattle.sending.specs.Edited.{edited, writtenForms}
 use Rattle.sending.specs.Send.{readUnder, belongs, editedRule}
 use Rattle.rereading.specs.Demand.{ReadsTo, EditedReads, WrittenReads, Agrees, EditedText}
-use Rattle.rereading.specs.Demand.{EditedAnswer, other-length, unsound, unread, stranger, no-room, written-out}
+use Rattle.rereading.specs.Demand.{EditedAnswer, other-length, unsound, unreadable, stranger, no-room, written-out}
 use Rattle.rereading.proofs.WrittenBlock.{all-written}
 use Rattle.sending.specs.Forms.{formsRoom}
 use Rattle.sending.proofs.Forming.{forms-most}
@@ -92,7 +92,7 @@ module _ (text l : List ℕ) (room : ℕ) where
   told-read : (d : Date) → isSound l ≡ true → (isLength text && eqb (length l) bookLength) ≡ true → Sound (bookOf l) → dateOf (bookOf l .issue) ≡ some d
       → (a : Answer Bulletin) → readBulletin text (d .year) (d .month) ≡ a → Told (editedRule text l room)
   unfolding editedRule andThen
-  told-read d good long s dated (no number place) e = rw (long, good, read-under text _ d dated ∙ e) (unread d number place dated e)
+  told-read d good long s dated (no number place) e = rw (long, good, read-under text _ d dated ∙ e) (unreadable d number place dated e)
   told-read d good long s dated (ok r) e =
       let w = forms-given (bookOf l) s in
       let under = read-under text (dateOf (bookOf l .issue)) d dated ∙ e in
@@ -125,7 +125,7 @@ pub record Given (text l out : List ℕ) (room : ℕ) : Type 0 where
 given-by : (text l : List ℕ) (room : ℕ) (a : Answer (List ℕ)) (out : List ℕ) → EditedAnswer text l room a → a ≡ ok out → Given text l out room
 given-by text l room a out (other-length t) e = apart cc
 given-by text l room a out (unsound t) e = apart cc
-given-by text l room a out (unread d number place t f) e = apart cc
+given-by text l room a out (unreadable d number place t f) e = apart cc
 given-by text l room a out (stranger d r t f g) e = apart cc
 given-by text l room a out (no-room x w h) e = apart cc
 given-by text l room a out (written-out x w h) e = let same : x ≡ out = cc in subst (λ (z : List ℕ). Given text l z room) same (record { edits = w; fits = h })

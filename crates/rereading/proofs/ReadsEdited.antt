@@ -22,7 +22,7 @@ use Rattle.blocks.specs.Content.{isContent}
 use Rattle.heading.specs.Heading.{Heading}
 use Rattle.heading.specs.Storm.{StormName}
 use Rattle.writing.specs.Write.{writtenBlock}
-use Rattle.bulletin.specs.Search.{later}
+use Rattle.bulletin.specs.Search.{linesAfter}
 use Rattle.bulletin.specs.Mnd.{stormIn}
 use Rattle.bulletin.specs.Segments.{Segment, segmentsOf}
 use Rattle.bulletin.specs.Bulletin.{Bulletin, textMost, isLength, line1, line2, issued, readBulletin}
@@ -58,7 +58,7 @@ module _ (year month : ℕ) (h : Heading) (n issue : ℕ) (s : Option StormName)
 
   -- the order of reading
   order : (text : List ℕ) (gs : List Segment) → isLength text ≡ true → checkText text ≡ ok tt → line1 (linesOf text) ≡ ok h
-      → line2 (length text) (later (linesOf text)) ≡ ok n → stormIn (linesOf text) ≡ ok s → segmentsOf text issue (linesOf text) ≡ ok gs
+      → line2 (length text) (linesAfter (linesOf text)) ≡ ok n → stormIn (linesOf text) ≡ ok s → segmentsOf text issue (linesOf text) ≡ ok gs
       → readBulletin text year month ≡ ok (bulletin gs)
   unfolding readBulletin andThen
   order text gs l c a b st sg = rw (l, known, c, a, b, dated, st, sg)
@@ -71,7 +71,7 @@ module _ (year month : ℕ) (h : Heading) (n issue : ℕ) (s : Option StormName)
 
   module _ (text : List ℕ) (gs : List Segment) (cs : List Content) (blocks : List (List ℕ)) (l : length cs ≡ length gs) (ws : NewBlocks issue cs blocks) where
     again : (one two : List ℕ) (ps : List (List ℕ)) → All Fair (one ∷ two ∷ ps) → line1 (linesAt 0 (one ∷ two ∷ ps)) ≡ ok h
-        → line2 (length text) (later (linesAt 0 (one ∷ two ∷ ps))) ≡ ok n → stormIn (linesAt 0 (one ∷ two ∷ ps)) ≡ ok s
+        → line2 (length text) (linesAfter (linesAt 0 (one ∷ two ∷ ps))) ≡ ok n → stormIn (linesAt 0 (one ∷ two ∷ ps)) ≡ ok s
         → Below issue one two text ps gs cs blocks → length (edited text gs blocks) ≤ textMost
         → NewReading (edited text gs blocks) year month (bulletin gs) cs blocks
     unfolding isLength linesAt inOrder
@@ -87,14 +87,14 @@ module _ (year month : ℕ) (h : Heading) (n issue : ℕ) (s : Option StormName)
           segments = w .segments;
           reads =
               order text′ (w .segments) (rw (le-leb 1 (length text′) long, le-leb (length text′) textMost fits)) (fair-check fair)
-              (ap (λ (x : List (List ℕ)). line1 (linesAt 0 x)) is ∙ a) (ap (λ (x : List (List ℕ)). line2 (length text′) (later (linesAt 0 x))) is ∙ b)
+              (ap (λ (x : List (List ℕ)). line1 (linesAt 0 x)) is ∙ a) (ap (λ (x : List (List ℕ)). line2 (length text′) (linesAfter (linesAt 0 x))) is ∙ b)
               (ap (λ (x : List (List ℕ)). stormIn (linesAt 0 x)) is ∙ storm-below one two (w .alike) st)
               (ap (λ (x : List (List ℕ)). segmentsOf text′ issue (linesAt 0 x)) is ∙ w .listed);
           contents = w .contents;
           stand = w .stand;
         })
 
-    by-lines : (ps : List (List ℕ)) → text ≡ inOrder ps → All Fair ps → line1 (linesAt 0 ps) ≡ ok h → line2 (length text) (later (linesAt 0 ps)) ≡ ok n
+    by-lines : (ps : List (List ℕ)) → text ≡ inOrder ps → All Fair ps → line1 (linesAt 0 ps) ≡ ok h → line2 (length text) (linesAfter (linesAt 0 ps)) ≡ ok n
         → stormIn (linesAt 0 ps) ≡ ok s → segmentsOf text issue (linesAt 0 ps) ≡ ok gs → ReplacedText text year month (bulletin gs) cs blocks
     unfolding linesAt
     by-lines [] t f a b st sg = apart cc

@@ -87,7 +87,7 @@ pub data EditedAnswer (text l : List ℕ) (room : ℕ) : Answer (List ℕ) → T
   -- 12
   unsound : isSound l ≡ false → EditedAnswer text l room (refused notSound 0)
   -- reading's own
-  unread : (d : Date) (number place : ℕ) → dateOf (bookOf l .issue) ≡ some d → readBulletin text (d .year) (d .month) ≡ no number place
+  unreadable : (d : Date) (number place : ℕ) → dateOf (bookOf l .issue) ≡ some d → readBulletin text (d .year) (d .month) ≡ no number place
       → EditedAnswer text l room (no number place)
   -- 27
   stranger : (d : Date) (r : Bulletin) → dateOf (bookOf l .issue) ≡ some d → readBulletin text (d .year) (d .month) ≡ ok r → belongs (bookOf l) r ≡ false

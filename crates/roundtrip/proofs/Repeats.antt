@@ -14,7 +14,7 @@ use Rattle.codes.specs.Block.{Stretch, stretchOf, coveredBefore, twiceFrom}
 use Rattle.codes.proofs.Bounds.{Below, covers-low}
 use Rattle.codes.proofs.Members.{run-keeps, run-here, run-from}
 use Rattle.codes.proofs.Twice.{Some, gathered, before-gathered, gathered-before, twice-covers, twice-purge, twice-wrong}
-use Rattle.roundtrip.specs.Round.{CoveredAt, this, behind, CoveredTwice, both, after}
+use Rattle.roundtrip.specs.Round.{CoveredAt, this, further, CoveredTwice, both, bothFurther}
 
 -- a place so far that the element at y covers, or a place that two elements cover, the later one at y
 abbrev Found : ℕ → Option ℕ → List Stretch → List Element → Type 0
@@ -24,12 +24,12 @@ Found y last before es = (q : ℕ) × ((List·Memᴰ q (gathered before) × Cove
 module _ (y : ℕ) (last : Option ℕ) (before : List Stretch) (e : Element) (es : List Element) (p n m : ℕ) (s : said last (e .bytes) ≡ covers p n m) where
   found-later : Found y (some p) (stretchOf p n m ∷ before) es → Found y last before (e ∷ es)
   unfolding gathered
-  found-later (q, inr t) = (q, inr (after p n m s t))
+  found-later (q, inr t) = (q, inr (bothFurther p n m s t))
   found-later (q, inl (w, c)) = (
     q,
     ⊎-elim
         (λ (h : (placeOf p n ≤ q) × (q < placeOf p n + (suc (placeOf p m) - placeOf p n))). inr (both p n m s (h .0) (omega (arith, h .0, h .1)) c))
-        (λ (g : List·Memᴰ q (gathered before)). inl (g, behind p n m s c))
+        (λ (g : List·Memᴰ q (gathered before)). inl (g, further p n m s c))
         (run-from (suc (placeOf p m) - placeOf p n) (placeOf p n) q (gathered before) w),
   )
 
@@ -76,7 +76,7 @@ module _ (q y : ℕ) where
   met (this {last} {e} {es} p n m s h k a) before g w =
       let f : true ≡ false = sym (gathered-before (stretchOf p n m) before (record { place = q; from = h; to = k; among = g })) ∙ none-on last before e es p n m s w .0 in
       apart cc
-  met (behind {last} {e} {es} p n m s c) before g w =
+  met (further {last} {e} {es} p n m s c) before g w =
       met c (stretchOf p n m ∷ before) (run-keeps (suc (placeOf p m) - placeOf p n) (placeOf p n) q g) (none-on last before e es p n m s w .1)
 
   twice-found : {last : Option ℕ} {es : List Element} → CoveredTwice q y last es → (before : List Stretch) → twiceFrom last before es ≡ none → ⊥
@@ -84,7 +84,7 @@ module _ (q y : ℕ) where
   twice-found (both {last} {e} {es} p n m s h k c) before w =
       met c (stretchOf p n m ∷ before) (run-here (suc (placeOf p m) - placeOf p n) (placeOf p n) q (gathered before) h (omega (arith, h, k)))
       (none-on last before e es p n m s w .1)
-  twice-found (after {last} {e} {es} p n m s t) before w = twice-found t (stretchOf p n m ∷ before) (none-on last before e es p n m s w .1)
+  twice-found (bothFurther {last} {e} {es} p n m s t) before w = twice-found t (stretchOf p n m ∷ before) (none-on last before e es p n m s w .1)
 
   pub covered-once : (es : List Element) → twiceFrom none [] es ≡ none → CoveredTwice q y none es → ⊥
   covered-once es w t = twice-found t [] w

@@ -32,14 +32,14 @@ pub record Addressed (ps : List ℕ) (at : ℕ) (text : List ℕ) : Type 0 where
 pub data CoveredAt (q y : ℕ) : Option ℕ → List Element → Type 0 where
   this : {last : Option ℕ} {e : Element} {es : List Element} (p n m : ℕ) → said last (e .bytes) ≡ covers p n m
       → placeOf p n ≤ q → q ≤ placeOf p m → e .at ≡ y → CoveredAt q y last (e ∷ es)
-  behind : {last : Option ℕ} {e : Element} {es : List Element} (p n m : ℕ) → said last (e .bytes) ≡ covers p n m
+  further : {last : Option ℕ} {e : Element} {es : List Element} (p n m : ℕ) → said last (e .bytes) ≡ covers p n m
       → CoveredAt q y (some p) es → CoveredAt q y last (e ∷ es)
 
 -- an element covers q, and so does a later one, at the place y
 pub data CoveredTwice (q y : ℕ) : Option ℕ → List Element → Type 0 where
   both : {last : Option ℕ} {e : Element} {es : List Element} (p n m : ℕ) → said last (e .bytes) ≡ covers p n m
       → placeOf p n ≤ q → q ≤ placeOf p m → CoveredAt q y (some p) es → CoveredTwice q y last (e ∷ es)
-  after : {last : Option ℕ} {e : Element} {es : List Element} (p n m : ℕ) → said last (e .bytes) ≡ covers p n m
+  bothFurther : {last : Option ℕ} {e : Element} {es : List Element} (p n m : ℕ) → said last (e .bytes) ≡ covers p n m
       → CoveredTwice q y (some p) es → CoveredTwice q y last (e ∷ es)
 
 -- ---- "A line opens a block": the text's line from this place on does
