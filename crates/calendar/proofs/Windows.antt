@@ -9,12 +9,13 @@ use borrow.Author.Tests.{leb-true, ltb-true, lt-ltb, le-ltb, le-leb, lt-leb, leb
 use Rattle.laws.proofs.Tests.{by, by-order, impossible, apart, same-test}
 use Rattle.calendar.specs.declared.Stamp.{Stamp}
 use Rattle.calendar.specs.declared.Window.{Window}
-use Rattle.calendar.specs.Calendar.{daysIn, dayExists, issueMonths, startOf, minuteIn, monthOf, stampAfter}
+use Rattle.months.specs.Months.{daysIn, issueMonths, startOf, monthOf}
+use Rattle.calendar.specs.Calendar.{minuteIn, dayExists, stampAfter}
 use Rattle.calendar.specs.Purge.{notTooEarly, purgeOf, gives, isPurge}
 use Rattle.calendar.specs.Window.{earliest, endAfter, comesFirst, windowAt, windowIn, windowOf, within, WindowOf}
-use Rattle.calendar.proofs.Laws.{start-next, days-low, start-mono, start-end, Falls, falls-one, month-some, month-none, time-is, minute-after}
-use Rattle.calendar.proofs.Laws.{after-time, after-day, after-back, date-is, purge-true, falls-purge, purge-is, purge-own, Purges, fits}
-use Rattle.calendar.proofs.Laws.{early-is, early-test, early-known, issue-same, issue-next, next-known, search-first, search-second, search-third}
+use Rattle.months.proofs.Laws.{start-next, days-low, start-mono, start-end, Falls, month-some, month-none, falls-one}
+use Rattle.calendar.proofs.Laws.{time-is, minute-after, after-time, after-day, after-back, date-is, fits, early-is, early-test, issue-same, early-known}
+use Rattle.calendar.proofs.Laws.{issue-next, next-known, search-first, search-second, search-third, Purges, purge-true, falls-purge, purge-is, purge-own}
 
 -- ---- what is within a window
 module _ (w : Window) (t : ℕ) where

@@ -1,97 +1,18 @@
--- Document 01, "Time": months, minutes and dates.
-use Prim.Native.Nat.{ℕ, zero, suc, _+_, _-_, _*_, _/_, _%_}
-use mathlib.Core.Bool.{Bool, true, false, cond, _&&_}
+-- Document 01, "Time": the issue's month, minutes and dates.
+use Prim.Native.Nat.{ℕ, _+_, _-_, _*_, _/_, _%_}
+use mathlib.Core.Bool.{Bool, cond, _&&_}
 use mathlib.Core.Option.{Option, none, some}
-use lib.Dec.{leb, ltb, eqb}
+use lib.Dec.{leb, ltb}
+use Rattle.months.specs.Months.{monthNumber, yearOf, monthOfYear, daysIn, allMonths, startOf, monthOf}
 use Rattle.calendar.specs.declared.Stamp.{Stamp}
 use Rattle.calendar.specs.declared.Date.{Date}
 
--- ---- months
--- "In these years every fourth is a leap year." 1972 is the first of them.
-unfoldable pub leap : ℕ → Bool
-leap year = eqb (year % 4) 0
-
--- the twelve months of a year
-pub data MonthName : Type 0 where
-  january : MonthName
-  february : MonthName
-  march : MonthName
-  april : MonthName
-  may : MonthName
-  june : MonthName
-  july : MonthName
-  august : MonthName
-  september : MonthName
-  october : MonthName
-  november : MonthName
-  december : MonthName
-
--- the days of each of them in a year
-unfoldable pub monthLength : ℕ → MonthName → ℕ
-monthLength year january = 31
-monthLength year february = cond (leap year) 29 28
-monthLength year march = 31
-monthLength year april = 30
-monthLength year may = 31
-monthLength year june = 30
-monthLength year july = 31
-monthLength year august = 31
-monthLength year september = 30
-monthLength year october = 31
-monthLength year november = 30
-monthLength year december = 31
-
--- "the month after"
-unfoldable pub nextMonth : MonthName → MonthName
-nextMonth january = february
-nextMonth february = march
-nextMonth march = april
-nextMonth april = may
-nextMonth may = june
-nextMonth june = july
-nextMonth july = august
-nextMonth august = september
-nextMonth september = october
-nextMonth october = november
-nextMonth november = december
-nextMonth december = january
-
--- the month so many after January
-unfoldable pub afterJanuary : ℕ → MonthName
-afterJanuary zero = january
-afterJanuary (suc n) = nextMonth (afterJanuary n)
-
--- Months are counted as minutes are, from January 1970 on, which is month 0. The months of a year have the numbers 1..12.
-abbrev pub monthNumber : ℕ → ℕ → ℕ
-monthNumber year month = 12 * (year - 1970) + (month - 1)
-
-abbrev pub yearOf : ℕ → ℕ
-yearOf k = 1970 + k / 12
-
-abbrev pub monthOfYear : ℕ → ℕ
-monthOfYear k = k % 12 + 1
-
--- the days of month k: it stands k % 12 after its year's January
-unfoldable pub daysIn : ℕ → ℕ
-daysIn k = monthLength (yearOf k) (afterJanuary (k % 12))
-
+-- ---- the issue's month
 -- "The caller lends the issue's year (1970..2099) and month."
 unfoldable pub isIssueMonth : ℕ → ℕ → Bool
 isIssueMonth year month = leb 1970 year && leb year 2099 && (leb 1 month && leb month 12)
 
--- The issue's months, and January 2100, which a December 2099 issue can reach.
-abbrev pub issueMonths : ℕ
-issueMonths = monthNumber 2100 1
-
-abbrev pub allMonths : ℕ
-allMonths = suc issueMonths
-
 -- ---- minutes
--- "Minutes count from 1970-01-01 0000 UTC": the minute at which month k starts
-unfoldable pub startOf : ℕ → ℕ
-startOf zero = 0
-startOf (suc k) = startOf k + 1440 * daysIn k
-
 -- DDHHMM: "DD 01..31, HH 00..23, MM 00..59"
 unfoldable pub isTime : Stamp → Bool
 isTime s = leb 1 (s .day) && leb (s .day) 31 && leb (s .hour) 23 && leb (s .minute) 59
@@ -114,14 +35,6 @@ minuteOf d =
     cond (isMonth (d .year) (d .month) && isTime (d .stamp) && dayExists (monthNumber (d .year) (d .month)) (d .stamp))
     (some (minuteIn (monthNumber (d .year) (d .month)) (d .stamp)))
     none
-
--- The month that a minute falls in, month after month: the minute stands `left` after the start of month k, and n months are left of the calendar.
-unfoldable pub monthFrom : ℕ → ℕ → ℕ → Option ℕ
-monthFrom zero k left = none
-monthFrom (suc n) k left = elim (ltb left (1440 * daysIn k)) [ true ↦ some k | false ↦ monthFrom n (suc k) (left - 1440 * daysIn k) ]
-
-unfoldable pub monthOf : ℕ → Option ℕ
-monthOf minute = monthFrom allMonths 0 minute
 
 -- a month's DDHHMM, so many minutes after its start
 abbrev pub stampAfter : ℕ → Stamp

@@ -1,5 +1,5 @@
 pub mod Calendar
 pub mod Purge
 pub mod Paper
-pub mod Months
 pub mod Window
+pub mod Serving

@@ -4,7 +4,8 @@ use mathlib.Core.Bool.{Bool, false, cond, _&&_}
 use mathlib.Core.List.{List, [], _∷_}
 use mathlib.Core.Option.{Option, none, some}
 use lib.Dec.{leb, ltb, eqb}
-use Rattle.calendar.specs.Calendar.{issueMonths, isTime, minuteIn, dayExists, monthOf, dateOf}
+use Rattle.months.specs.Months.{issueMonths, monthOf}
+use Rattle.calendar.specs.Calendar.{isTime, minuteIn, dayExists, dateOf}
 use Rattle.calendar.specs.declared.Stamp.{Stamp}
 use Rattle.calendar.specs.declared.Date.{Date}
 

@@ -4,7 +4,7 @@ use mathlib.Core.Path.{_≡_}
 use mathlib.Core.Bool.{Bool, not, cond, _&&_, _||_}
 use mathlib.Core.Option.{Option, none, some}
 use lib.Dec.{leb, ltb}
-use Rattle.calendar.specs.Calendar.{issueMonths, daysIn, startOf, monthOf}
+use Rattle.months.specs.Months.{daysIn, issueMonths, startOf, monthOf}
 use Rattle.calendar.specs.Purge.{isPurge}
 use Rattle.calendar.specs.declared.Window.{Window}
 use Rattle.calendar.specs.declared.Windowed.{Windowed}

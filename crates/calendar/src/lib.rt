@@ -3,11 +3,12 @@ ghost use mathlib.Core.Path.{_≡_};
 ghost use Prim.Native.Nat.{_+_, _-_, _*_, _≤_};
 ghost use mathlib.Core.Bool.{cond};
 ghost use lib.Dec.{ltb};
-ghost use Rattle.calendar.specs.Calendar.{isIssueMonth, isMonth, isTime, monthNumber, daysIn, startOf, monthOf, minuteOf, dateOf};
+ghost use Rattle.calendar.specs.Calendar.{isIssueMonth, isMonth, isTime, minuteOf, dateOf};
 ghost use Rattle.calendar.specs.Purge.{purgeOf};
 ghost use Rattle.calendar.specs.Window.{earliest, within, windowOf, paperWindowed};
 ghost use Rattle.calendar.specs.Paper.{paperMoment, paperDated};
-ghost use Rattle.calendar.specs.Months.{Twelve, InYear, Time, lengthIn, monthIn, paperFound};
+ghost use Rattle.calendar.specs.Serving.{Time};
+use months::Found;
 
 // DDHHMM.
 pub struct Stamp {
@@ -33,27 +34,8 @@ pub enum Dated {
     Nothing,
 }
 
-// A month of the calendar: where it starts, in minutes, and its days.
-struct Month {
-    year: usize,
-    month: usize,
-    start: usize,
-    days: usize,
-}
-
-enum Found {
-    In(Month),
-    Nothing,
-}
-
-// The lengths of the months, January to December, of a year that is no leap year.
-const LENGTHS: [usize; 12] = [31, 28, 31, 30, 31, 30, 31, 31, 30, 31, 30, 31];
-
 // 2100-01-01 0000, where the issues end.
 const ISSUES: usize = 68374080;
-
-// 2100-02-01 0000, where the calendar ends.
-const END: usize = 68418720;
 
 // How long before its issue a purge may be.
 const LATE: usize = 1440;
@@ -70,26 +52,6 @@ pub fn is_time(s: Stamp) -> bool
     (1 <= s.day) & (s.day <= 31) & (s.hour <= 23) & (s.minute <= 59)
 }
 
-fn month_length(year: usize, month: usize) -> usize
-    requires { ⌜ Twelve month ⌝ }
-    ensures is { λ r. ⌜ r ≡ lengthIn year month ⌝ }
-    ensures most { λ r. ⌜ r ≤ 31 ⌝ }
-{
-    if (month == 2) & (year % 4 == 0) {
-        return 29;
-    }
-    LENGTHS[month - 1]
-}
-
-// The days before the year 1970 + n: 365 for each, and one for each leap year.
-fn days_before(n: usize) -> usize
-    requires { ⌜ n ≤ 200 ⌝ }
-    ensures is { λ r. ⌜ 1440 * r ≡ startOf (12 * n) ⌝ }
-    ensures most { λ r. ⌜ r ≤ 100000 ⌝ }
-{
-    365 * n + (n + 1) / 4
-}
-
 // A month that the calendar has: one of an issue, or January 2100.
 fn is_month(year: usize, month: usize) -> bool
     ensures { λ r. ⌜ r ≡ isMonth year month ⌝ }
@@ -97,62 +59,10 @@ fn is_month(year: usize, month: usize) -> bool
     is_issue_month(year, month) | ((year == 2100) & (month == 1))
 }
 
-fn month_start(year: usize, month: usize) -> usize
-    requires { ⌜ InYear year month ⌝ }
-    ensures is { λ r. ⌜ r ≡ startOf (monthNumber year month) ⌝ }
-    ensures most { λ r. ⌜ r ≤ 100000000 ⌝ }
-{
-    let mut start = 1440 * days_before(year - 1970);
-    let mut passed = 1;
-    while passed < month {
-        start += 1440 * month_length(year, passed);
-        passed += 1;
-    }
-    start
-}
-
-// The days of the month that comes so many months later.
-fn length_after(year: usize, month: usize, later: usize) -> usize
-    requires { ⌜ InYear year month × later ≤ 12 ⌝ }
-    ensures is { λ r. ⌜ r ≡ daysIn (monthNumber year month + later) ⌝ }
-    ensures most { λ r. ⌜ r ≤ 31 ⌝ }
-{
-    let at = month + later;
-    if 12 < at {
-        month_length(year + 1, at - 12)
-    } else {
-        month_length(year, at)
-    }
-}
-
-// The month that a minute falls in. Four years have 1461 days, and no year starts more than 2 / 4 of a day before that measure.
-fn month_of(minute: usize) -> Found
-    ensures { λ r. ⌜ paperFound r ≡ monthIn (monthOf minute) ⌝ }
-{
-    if END <= minute {
-        return Found::Nothing;
-    }
-    let n = (4 * (minute / 1440) + 2) / 1461;
-    let mut start = 1440 * days_before(n);
-    let mut month = 1;
-    let mut days = month_length(1970 + n, 1);
-    while start + 1440 * days <= minute {
-        start += 1440 * days;
-        month += 1;
-        days = month_length(1970 + n, month);
-    }
-    Found::In(Month {
-        year: 1970 + n,
-        month,
-        start,
-        days,
-    })
-}
-
 pub fn date_of(minute: usize) -> Dated
     ensures { λ r. ⌜ paperDated r ≡ dateOf minute ⌝ }
 {
-    let Found::In(m) = month_of(minute) else {
+    let Found::In(m) = months::month_of(minute) else {
         return Dated::Nothing;
     };
     let left = minute - m.start;
@@ -186,8 +96,8 @@ pub fn minute_of(date: Date) -> Moment
     if !usable {
         return Moment::Nothing;
     }
-    if s.day <= month_length(year, month) {
-        return Moment::At(month_start(year, month) + time_in(s));
+    if s.day <= months::month_length(year, month) {
+        return Moment::At(months::month_start(year, month) + time_in(s));
     }
     Moment::Nothing
 }
@@ -211,7 +121,7 @@ pub fn purge_of(issue: usize, s: Stamp) -> Moment
     }
     // It is not past the issue, so the calendar has its month.
     let from = earliest(issue);
-    let Found::In(m) = month_of(from) else {
+    let Found::In(m) = months::month_of(from) else {
         return Moment::Nothing;
     };
     let here = m.start + time_in(s);
@@ -221,12 +131,12 @@ pub fn purge_of(issue: usize, s: Stamp) -> Moment
     // No minute of a later month is too early.
     let lasts = 1440 * m.days;
     let next = here + lasts;
-    let days = length_after(m.year, m.month, 1);
+    let days = months::length_after(m.year, m.month, 1);
     if s.day <= days {
         return Moment::At(next);
     }
     // If the issue itself is of the next month, the month after it is the third from here.
-    let last = length_after(m.year, m.month, 2);
+    let last = months::length_after(m.year, m.month, 2);
     if (m.start + lasts <= issue) & (s.day <= last) {
         return Moment::At(next + 1440 * days);
     }
@@ -272,14 +182,19 @@ pub fn window_of(issue: usize) -> Windowed
     }
     // It is not past the issue, so the calendar has its month.
     let from = earliest(issue);
-    let Found::In(m) = month_of(from) else {
+    let Found::In(m) = months::month_of(from) else {
         return Windowed::Nothing;
     };
     let lasts = 1440 * m.days;
-    let then = 1440 * length_after(m.year, m.month, 1);
+    let then = 1440 * months::length_after(m.year, m.month, 1);
     let second = m.start + lasts;
     let third = second + then;
-    let end = end_after(issue, second, third, length_after(m.year, m.month, 2));
+    let end = end_after(
+        issue,
+        second,
+        third,
+        months::length_after(m.year, m.month, 2),
+    );
     Windowed::Is(Window {
         from,
         since: from - m.start,

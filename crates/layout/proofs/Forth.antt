@@ -10,8 +10,8 @@ use lib.ListN.{length, getD}
 use borrow.Author.Tests.{ltb-true}
 use Rattle.laws.proofs.Lookups.{get-some}
 use Rattle.laws.proofs.Lists.{all-get}
-use Rattle.calendar.specs.Calendar.{startOf, issueMonths, allMonths}
-use Rattle.calendar.proofs.Laws.{start-mono, start-end}
+use Rattle.months.specs.Months.{startOf, issueMonths, allMonths}
+use Rattle.months.proofs.Laws.{start-mono, start-end}
 use Rattle.codes.specs.Places.{upward}
 use Rattle.blocks.specs.Block.{numberAt, blockOf}
 use Rattle.blocks.specs.Content.{holding, contentOf}

@@ -6,7 +6,7 @@ use mathlib.Core.List.{List}
 use mathlib.Core.Option.{none, some}
 use borrow.Author.Tests.{ltb-true, not-false}
 use Rattle.laws.proofs.Tests.{apart}
-use Rattle.calendar.specs.Calendar.{startOf, issueMonths}
+use Rattle.months.specs.Months.{startOf, issueMonths}
 use Rattle.calendar.specs.Window.{windowOf, paperWindowed, WindowOf}
 use Rattle.calendar.specs.declared.Window.{Window}
 use Rattle.calendar.specs.declared.Windowed.{Windowed}

@@ -8,7 +8,7 @@ use mathlib.Core.List.{List, _∷_}
 use lib.ListN.{length, getD}
 use lib.Dec.{leb, ltb, eqb}
 use borrow.Author.Tests.{lt-leb, eq-eqb, ne-eqb, not-true, not-false}
-use Rattle.calendar.proofs.Laws.{start-issues}
+use Rattle.months.proofs.Laws.{start-issues}
 use Rattle.codes.specs.Places.{upward}
 use Rattle.blocks.specs.Block.{numberAt, blockOf, bookLength}
 use Rattle.blocks.specs.Good.{isUsed, isUnused}

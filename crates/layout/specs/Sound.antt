@@ -9,7 +9,7 @@ use mathlib.Core.List.{List, [], _∷_}
 use lib.ListN.{length}
 use lib.Dec.{ltb}
 use Rattle.laws.specs.Lists.{All}
-use Rattle.calendar.specs.Calendar.{startOf, issueMonths}
+use Rattle.months.specs.Months.{startOf, issueMonths}
 use Rattle.codes.specs.Block.{Content}
 use Rattle.blocks.specs.Content.{isContent}
 use Rattle.steps.specs.Book.{Copy, Draft, closed, working, History, Book}

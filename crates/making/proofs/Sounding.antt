@@ -12,9 +12,11 @@ use Rattle.laws.proofs.Lists.{all-map}
 use Rattle.laws.specs.Lists.{All, all-nil, all-cons}
 use Rattle.refusal.specs.Numbers.{Reason, wrongTime}
 use Rattle.refusal.specs.Answer.{ok, must}
-use Rattle.calendar.specs.Calendar.{yearOf, monthOfYear, issueMonths, isIssueMonth, startOf, minuteOf, stampAfter, monthOf, dateIn, dateOf}
+use Rattle.months.specs.Months.{yearOf, monthOfYear, issueMonths, startOf, monthOf}
+use Rattle.calendar.specs.Calendar.{isIssueMonth, minuteOf, stampAfter, dateIn, dateOf}
 use Rattle.calendar.specs.declared.Date.{Date}
-use Rattle.calendar.proofs.Laws.{start-mono, month-some, minute-date, issue-true}
+use Rattle.months.proofs.Laws.{start-mono, month-some}
+use Rattle.calendar.proofs.Laws.{minute-date, issue-true}
 use Rattle.roundtrip.specs.Round.{ReadsBack}
 use Rattle.roundtrip.proofs.WriteRead.{read-writable, read-again}
 use Rattle.blocks.specs.Content.{isContent}

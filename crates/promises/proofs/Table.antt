@@ -3,7 +3,8 @@ use lib.Dec.{T}
 use Rattle.refusal.specs.Answer.{andThen}
 use Rattle.lines.specs.Bytes.{begins, exactly}
 use Rattle.lines.specs.Lines.{pieces, lineEnd, bodyOf, linesAt, blank, isEnd, opens}
-use Rattle.calendar.specs.Calendar.{leap, monthLength, nextMonth, afterJanuary, daysIn, isIssueMonth, startOf, isTime, minuteIn, isMonth, minuteOf, monthFrom, monthOf, dateOf}
+use Rattle.months.specs.Months.{leap, monthLength, nextMonth, afterJanuary, daysIn, startOf, monthFrom, monthOf}
+use Rattle.calendar.specs.Calendar.{isIssueMonth, isTime, minuteIn, isMonth, minuteOf, dateOf}
 use Rattle.calendar.specs.Purge.{monthsAround, minutesWith, firstOf, purgeIn, purgeOf}
 use Rattle.codes.specs.Elements.{elementsAt, elementsOfLines, numbers, time, short, said}
 use Rattle.codes.specs.Block.{insert, insertRun, readFrom, readBlock, coveredBefore, twiceFrom, twiceAt, contentAt}

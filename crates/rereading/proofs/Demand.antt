@@ -11,9 +11,11 @@ use borrow.Author.Tests.{eqb-true, eq-eqb, leb-true, leb-false, ltb-true}
 use Rattle.laws.proofs.Tests.{by, apart, and-left, and-right}
 use Rattle.laws.specs.Lists.{All}
 use Rattle.refusal.specs.Answer.{Answer, ok, no, andThen}
-use Rattle.calendar.specs.Calendar.{startOf, issueMonths, allMonths, dateOf}
+use Rattle.months.specs.Months.{startOf, issueMonths, allMonths}
+use Rattle.calendar.specs.Calendar.{dateOf}
 use Rattle.calendar.specs.declared.Date.{Date}
-use Rattle.calendar.proofs.Laws.{start-mono, start-end, date-some}
+use Rattle.months.proofs.Laws.{start-mono, start-end}
+use Rattle.calendar.proofs.Laws.{date-some}
 use Rattle.codes.specs.Block.{Content}
 use Rattle.writing.specs.Write.{fitting}
 use Rattle.bulletin.specs.Bulletin.{Bulletin, textMost, isLength, readBulletin}

@@ -1,4 +1,5 @@
-use Rattle.calendar.proofs.Ways.{none-found, stands, start-low, date-none, date-on}
+use Rattle.months.proofs.Ways.{none-found, stands, start-low}
+use Rattle.calendar.proofs.Ways.{date-on, date-none}
 use borrow.Author.Needs.{needs}
 use Rattle.calendar.proofs.date_of.Statement.{statement}
 use Rattle.calendar.proofs.date_of.Tie as tie

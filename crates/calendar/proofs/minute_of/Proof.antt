@@ -1,4 +1,4 @@
-use Rattle.calendar.proofs.Ways.{minute-unusable, minute-month, minute-twelve, minute-time, minute-here, minute-none}
+use Rattle.calendar.proofs.Ways.{minute-unusable, minute-month, minute-twelve, minute-time, minute-none, minute-here}
 use borrow.Author.Needs.{needs}
 use Rattle.calendar.proofs.minute_of.Statement.{statement}
 use Rattle.calendar.proofs.minute_of.Tie as tie

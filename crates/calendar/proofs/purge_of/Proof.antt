@@ -1,4 +1,4 @@
-use Rattle.calendar.proofs.Ways.{none-found, stands, in-year, days-fit, days-most, sum-fits, next-fits, third-fits}
+use Rattle.months.proofs.Ways.{none-found, stands, in-year, days-most, days-fit, sum-fits, next-fits, third-fits}
 use Rattle.calendar.proofs.Ways.{purge-unusable, usable-time, purge-none, purge-first, purge-second, purge-third, purge-gone}
 use borrow.Author.Needs.{needs}
 use Rattle.calendar.proofs.purge_of.Statement.{statement}

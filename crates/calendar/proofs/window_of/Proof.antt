@@ -1,4 +1,4 @@
-use Rattle.calendar.proofs.Ways.{none-found, stands, start-low, in-year, days-most, days-fit, sum-fits, third-most, end-fits, longer-fits}
+use Rattle.months.proofs.Ways.{none-found, stands, in-year, start-low, days-most, days-fit, sum-fits, third-most, end-fits, longer-fits}
 use Rattle.calendar.proofs.Ways.{window-late, window-none, window-is}
 use borrow.Author.Needs.{needs}
 use Rattle.calendar.proofs.window_of.Statement.{statement}

@@ -1,8 +1,8 @@
 use Prim.Native.Nat.{_-_}
-use Rattle.calendar.proofs.Ways.{Turns, month-gone, turns-first, turns-more, turns-on, turns-end}
+use Rattle.months.proofs.Ways.{Turns, turns-first, turns-more, turns-on, turns-end, month-gone}
 use borrow.Author.Needs.{needs}
-use Rattle.calendar.proofs.month_of.Statement.{statement}
-use Rattle.calendar.proofs.month_of.Tie as tie
+use Rattle.months.proofs.month_of.Statement.{statement}
+use Rattle.months.proofs.month_of.Tie as tie
 
 abbrev Inv-loop : tie.InvT-loop
 Inv-loop minute n start₀ month₀ days₀ start month days = Turns minute n month start days

@@ -1,11 +1,10 @@
--- This file serves the code: what it keeps of a month, and what it asks of a month and of a DDHHMM.
+-- Serves the code: what it keeps of a month, and what it asks of one.
 use Prim.Native.Nat.{ℕ, _-_, _≤_}
 use mathlib.Core.Option.{Option, none, some}
-use Rattle.calendar.specs.Calendar.{monthLength, afterJanuary, yearOf, monthOfYear, startOf, daysIn}
-use Rattle.calendar.specs.declared.Stamp.{Stamp}
-use Rattle.calendar.specs.declared.Month.{Month}
-use Rattle.calendar.specs.declared.Found.{Found}
-use Rattle.calendar.specs.declared.Found.the-variants as found
+use Rattle.months.specs.Months.{monthLength, afterJanuary, yearOf, monthOfYear, daysIn, startOf}
+use Rattle.months.specs.declared.Month.{Month}
+use Rattle.months.specs.declared.Found.{Found}
+use Rattle.months.specs.declared.Found.the-variants as found
 
 -- one of the twelve months
 pub record Twelve (month : ℕ) : Type 0 where
@@ -33,10 +32,3 @@ pub record InYear (year month : ℕ) : Type 0 where
   pub to : year ≤ 2100
   pub first : 1 ≤ month
   pub last : month ≤ 12
-
--- the ranges of DDHHMM
-pub record Time (s : Stamp) : Type 0 where
-  pub first : 1 ≤ s .day
-  pub last : s .day ≤ 31
-  pub hours : s .hour ≤ 23
-  pub minutes : s .minute ≤ 59

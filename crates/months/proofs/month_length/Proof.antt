@@ -1,7 +1,7 @@
-use Rattle.calendar.proofs.Ways.{length-leap, length-plain, length-most}
+use Rattle.months.proofs.Lengths.{length-leap, length-plain, length-most}
 use borrow.Author.Needs.{needs}
-use Rattle.calendar.proofs.month_length.Statement.{statement}
-use Rattle.calendar.proofs.month_length.Tie as tie
+use Rattle.months.proofs.month_length.Statement.{statement}
+use Rattle.months.proofs.month_length.Tie as tie
 
 pub month-length-spec : {M : Type 1} → statement M
 month-length-spec = tie.close (tie.spec

@@ -1,7 +1,7 @@
-use Rattle.calendar.proofs.Ways.{after-year, after-here}
+use Rattle.months.proofs.Ways.{after-year, after-here}
 use borrow.Author.Needs.{needs}
-use Rattle.calendar.proofs.length_after.Statement.{statement}
-use Rattle.calendar.proofs.length_after.Tie as tie
+use Rattle.months.proofs.length_after.Statement.{statement}
+use Rattle.months.proofs.length_after.Tie as tie
 
 pub length-after-spec : {M : Type 1} → statement M
 length-after-spec =

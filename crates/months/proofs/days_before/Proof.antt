@@ -1,8 +1,8 @@
 use mathlib.Core.Path.{sym}
-use Rattle.calendar.proofs.Laws.{start-year}
+use Rattle.months.proofs.Laws.{start-year}
 use borrow.Author.Needs.{needs}
-use Rattle.calendar.proofs.days_before.Statement.{statement}
-use Rattle.calendar.proofs.days_before.Tie as tie
+use Rattle.months.proofs.days_before.Statement.{statement}
+use Rattle.months.proofs.days_before.Tie as tie
 
 pub days-before-spec : {M : Type 1} → statement M
 days-before-spec = tie.close (tie.spec

@@ -1,8 +1,8 @@
 use Prim.Native.Nat.{_-_}
-use Rattle.calendar.proofs.Ways.{Passed, passed-none, passed-on, passed-all}
+use Rattle.months.proofs.Ways.{Passed, passed-none, passed-on, passed-all}
 use borrow.Author.Needs.{needs}
-use Rattle.calendar.proofs.month_start.Statement.{statement}
-use Rattle.calendar.proofs.month_start.Tie as tie
+use Rattle.months.proofs.month_start.Statement.{statement}
+use Rattle.months.proofs.month_start.Tie as tie
 
 abbrev Inv-loop : tie.InvT-loop
 Inv-loop year month start₀ passed₀ start passed = Passed year month passed start
