@@ -14,13 +14,16 @@ use Rattle.calendar.specs.Purge.{isPurge}
 use Rattle.calendar.proofs.Laws.{purge-own, purge-low}
 use Rattle.codes.specs.Places.{capacity, placesEnd, isSet, ascends}
 use Rattle.codes.specs.Block.{Content}
-use Rattle.blocks.specs.Block.{blockLength, bytes32, numberAt, numbersOf, flat, checkOf, sealed, checked, allZero, sameList, Bytes}
+use Rattle.checks.specs.Seal.{blockLength, checkOf, sealed, checked, allZero}
+use Rattle.blocks.specs.Block.{bytes32, numberAt, numbersOf, flat, sameList, Bytes}
 use Rattle.blocks.specs.Content.{contentBytes, holding, contentOf, isContent}
-use Rattle.blocks.specs.Good.{isUsed, isUnused}
+use Rattle.checks.specs.Unused.{isUnused}
+use Rattle.blocks.specs.Good.{isUsed}
 use Rattle.blocks.proofs.Chunks.{set-append-right, flat-length}
-use Rattle.blocks.proofs.Seals.{sealed-length, sealed-at}
+use Rattle.checks.proofs.Seals.{sealed-length, sealed-at}
 use Rattle.blocks.proofs.Numbers.{bytes-drop, number-forth, first4, word-back, numbers-length, numbers-back}
-use Rattle.blocks.proofs.Forms.{slice-zero, zero-in, sealed-checked, sealed-form}
+use Rattle.checks.proofs.Zeros.{slice-zero, zero-in}
+use Rattle.blocks.proofs.Forms.{sealed-checked, sealed-form}
 
 -- ---- the same bytes
 -- the test is true of equal lists alone

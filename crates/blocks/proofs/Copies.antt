@@ -1,12 +1,11 @@
--- A copy within a list, one element a turn, and a list filled with zeros. Assumes nothing.
+-- A copy within a list, one element a turn. Assumes nothing.
 use mathlib.Core.Path.{_≡_, refl, ap, _∙_}
 use mathlib.Core.Logic.{_⊎_, inl, inr}
-use mathlib.Core.List.{List, _++_, append-assoc, append-nil}
+use mathlib.Core.List.{List, append-assoc}
 use Prim.Native.Nat.{ℕ, _+_, _*_, _≤_, _<_}
 use native.Mathlib.Omega.{arith}
-use borrow.Author.Fill.{fill-more}
-use lib.ListN.{length, drop, getD, set, replicate, length-set}
-use lib.Seq.{paste, paste-zero, drop-drop, drop-length}
+use lib.ListN.{length, drop, getD, set, length-set}
+use lib.Seq.{paste, paste-zero, drop-drop}
 use Rattle.laws.proofs.Tests.{by-order}
 use Rattle.laws.proofs.Pastes.{copy-turn}
 use Rattle.blocks.specs.Block.{blockOf, putBlock, blockCount, bookLength}
@@ -38,23 +37,3 @@ module _ (d₀ d : List ℕ) (i j k : ℕ) (v : Copying d₀ d i j k) where
   copying-done h =
       let e : k ≡ 512 = omega (arith, v .left) in
       v .bytes ∙ ap (paste d₀ (j * 512) (drop (i * 512) d₀)) e ∙ simp (append-assoc, drop-drop)
-
--- ---- zeros: i bytes are zero
-pub record Cleared (b₀ b : List ℕ) (i : ℕ) : Type 0 where
-  pub left : i ≤ length b₀
-  pub long : length b ≡ length b₀
-  pub bytes : b ≡ replicate i 0 ++ drop i b₀
-
-pub cleared-start : (b : List ℕ) → Cleared b b 0
-cleared-start b = record { left = omega arith; long = refl; bytes = refl }
-
-module _ (b₀ b : List ℕ) (i : ℕ) (v : Cleared b₀ b i) where
-  pub cleared-on : i < length b → Cleared b₀ (set b i 0) (i + 1)
-  cleared-on h =
-      let e : length b ≡ length b₀ = v .long in
-      record { left = omega arith; long = simp length-set (v .long); bytes = ap (λ (l : List ℕ). set l i 0) (v .bytes) ∙ fill-more i 0 b₀ (omega arith) }
-
-  pub cleared-done : length b ≤ i → b ≡ replicate (length b₀) 0
-  cleared-done h =
-      let e : i ≡ length b₀ = omega (arith, v .left, v .long) in
-      v .bytes ∙ ap (λ (n : ℕ). replicate n 0 ++ drop n b₀) e ∙ ap (λ (l : List ℕ). replicate (length b₀) 0 ++ l) (drop-length b₀) ∙ append-nil _

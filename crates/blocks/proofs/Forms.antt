@@ -1,62 +1,20 @@
--- Zeros, and the form of a good block: a right check, and zeros from an offset on. Assumes nothing.
-use mathlib.Core.Path.{_≡_, refl, sym, ap, ap₂, _∙_}
+-- The form of a good block: a right check, and zeros from an offset on. Assumes nothing.
+use mathlib.Core.Path.{_≡_, sym, ap, ap₂, _∙_}
 use mathlib.Core.Logic.{_≢_}
-use mathlib.Core.Bool.{true, _&&_}
-use mathlib.Core.List.{List, [], _∷_, _++_}
-use Prim.Native.Nat.{ℕ, zero, suc, _+_, _*_, _-_, _/_, _%_, _≤_, _<_}
+use mathlib.Core.Bool.{true}
+use mathlib.Core.List.{List, _++_}
+use Prim.Native.Nat.{ℕ, _+_, _*_, _-_, _/_, _%_, _≤_, _<_}
 use native.Mathlib.Nat.{ne-of-lt, mod-eq-of-lt, mod-lt, mod-add-div, div-lt-iff-lt-mul}
 use native.Mathlib.Omega.{arith}
-use lib.ListN.{length, take, drop, getD, set, replicate, length-replicate, getD-replicate, length-set, length-drop, take-append-drop}
-use lib.Seq.{slice, length-slice, getD-take, getD-drop, set-getD, ext-getD, take-set-le, getD-set-same, getD-set-other}
-use lib.Dec.{eqb}
+use lib.ListN.{length, take, drop, getD, set, replicate, length-set, length-drop, take-append-drop}
+use lib.Seq.{slice, getD-drop, set-getD, take-set-le, getD-set-same, getD-set-other}
 use borrow.Author.Tests.{eqb-true, eq-eqb}
-use Rattle.laws.proofs.Tests.{by-order, same-test, and-left, and-right}
-use Rattle.blocks.specs.Block.{blockLength, checkOf, sealed, checked, allZero, Bytes}
-use Rattle.blocks.proofs.Seals.{check-set, sealed-again}
+use Rattle.laws.proofs.Tests.{by-order}
+use Rattle.checks.specs.Seal.{blockLength, checkOf, sealed, checked, allZero}
+use Rattle.blocks.specs.Block.{Bytes}
+use Rattle.checks.proofs.Seals.{check-set, sealed-again}
+use Rattle.checks.proofs.Zeros.{zero-in, zeros-ext}
 use Rattle.blocks.proofs.Numbers.{byte-at, low-byte, high-part}
-
--- ---- zeros
--- the test, and each byte
-pub all-zero-at : (l : List ℕ) → allZero l ≡ true → (i : ℕ) → getD l i 0 ≡ 0
-unfolding allZero
-all-zero-at [] h i = refl
-all-zero-at (x ∷ xs) h zero = eqb-true x 0 (and-left (eqb x 0) (allZero xs) h)
-all-zero-at (x ∷ xs) h (suc i) = all-zero-at xs (and-right (eqb x 0) (allZero xs) h) i
-
-pub all-zero-of : (l : List ℕ) → ((i : ℕ) → i < length l → getD l i 0 ≡ 0) → allZero l ≡ true
-unfolding allZero
-all-zero-of [] z = refl
-all-zero-of (x ∷ xs) z = rw (eq-eqb x 0 (z 0 (omega arith))) (all-zero-of xs (λ i h. z (suc i) (omega arith)))
-
--- the test of a part, and each of its bytes
-pub zero-in : (f t : ℕ) (l : List ℕ) → allZero (slice f t l) ≡ true → (i : ℕ) → f ≤ i → i < t → getD l i 0 ≡ 0
-zero-in f t l h i g k =
-    let e : f + (i - f) ≡ i = omega arith in
-    sym (getD-take t l i 0 k) ∙ ap (λ (j : ℕ). getD (take t l) j 0) (sym e) ∙ sym (getD-drop f (take t l) (i - f) 0) ∙ all-zero-at (slice f t l) h (i - f)
-
-pub slice-zero : (f t : ℕ) (l : List ℕ) → t ≤ length l → ((i : ℕ) → f ≤ i → i < t → getD l i 0 ≡ 0) → allZero (slice f t l) ≡ true
-slice-zero f t l k z =
-    all-zero-of (slice f t l)
-    (λ i h. let n = length-slice f t l k in
-    let g : f + i < t = omega arith in
-    getD-drop f (take t l) i 0 ∙ getD-take t l (f + i) 0 g ∙ z (f + i) (omega arith) g)
-
--- a part is zeros if both its parts are, which may have bytes in common
-pub zero-join : (f n m t : ℕ) (l : List ℕ) → f ≤ n → n ≤ m → m ≤ t → t ≤ length l
-    → (allZero (slice f m l) && allZero (slice n t l)) ≡ allZero (slice f t l)
-zero-join f n m t l h j k w =
-    let front = allZero (slice f m l) in
-    let back = allZero (slice n t l) in
-    same-test (front && back) (allZero (slice f t l))
-    (λ e. slice-zero f t l w
-    (λ i p q. by-order i m (λ r. zero-in f m l (and-left front back e) i p r) (λ r. zero-in n t l (and-right front back e) i (omega arith) q)))
-    (λ e. let z : (i : ℕ) → f ≤ i → i < t → getD l i 0 ≡ 0 = zero-in f t l e in
-    rw (slice-zero f m l (omega arith) (λ i p q. z i p (omega arith)), slice-zero n t l w (λ i p q. z i (omega arith) q)))
-
--- a list of zeros is that many zeros
-pub zeros-ext : (m : ℕ) (l : List ℕ) → length l ≡ m → ((i : ℕ) → i < m → getD l i 0 ≡ 0) → l ≡ replicate m 0
-zeros-ext m l e h =
-    ext-getD 0 l (replicate m 0) (e ∙ sym (length-replicate m 0)) (λ i k. let g : i < m = omega arith in h i g ∙ sym (getD-replicate m i 0 0 g))
 
 -- ---- the check
 -- the check fits its two bytes

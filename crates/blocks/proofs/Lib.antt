@@ -1,12 +1,10 @@
 pub mod Chunks
-pub mod Seals
 pub mod Blocks
 pub mod Numbers
 pub mod Forms
 pub mod Contents
-pub mod Columns
 pub mod Scans
 pub mod Used
-pub mod Unused
+pub mod Emptied
 pub mod Copies
 pub mod Stored

@@ -6,7 +6,8 @@ use native.Mathlib.Nat.{zero-add, add-mul-mod-self-left, mod-eq-of-lt, mod-add-d
 use native.Mathlib.Omega.{arith}
 use lib.ListN.{length, take, drop, getD, length-drop}
 use lib.Seq.{getD-drop, take-add}
-use Rattle.blocks.specs.Block.{blockLength, bytes32, numberAt, numbersOf, blockOf, Bytes, flat}
+use Rattle.checks.specs.Seal.{blockLength}
+use Rattle.blocks.specs.Block.{bytes32, numberAt, numbersOf, blockOf, Bytes, flat}
 
 -- ---- bytes
 -- one of them

@@ -1,66 +1,18 @@
--- Scans of a block: zeros, ascending numbers, two parts side by side. Assumes nothing.
+-- Scans of a block: ascending numbers, two parts side by side. Assumes nothing.
 use Prim.Native.Nat.{ℕ, suc, _+_, _*_, _-_, _≤_, _<_}
 use native.Mathlib.Numerals.{add-one}
 use native.Mathlib.Omega.{arith}
 use mathlib.Core.Path.{_≡_, refl, sym, ap, _∙_}
-use mathlib.Core.Bool.{Bool, true, false, _&&_, and-true, and-assoc}
+use mathlib.Core.Bool.{Bool, true, false, _&&_}
 use mathlib.Core.List.{List}
-use lib.Bits.{bitOr, bitAnd, or-add-and, and-le-l, and-le-r}
 use lib.ListN.{length, drop, getD, drop-of-length-le}
-use lib.Seq.{slice, slice-cons, slice-empty, drop-cons}
+use lib.Seq.{drop-cons}
 use lib.Dec.{eqb, ltb}
-use borrow.Author.Tests.{eqb-true, eq-eqb, ne-eqb}
-use Rattle.laws.proofs.Tests.{same-test, and-left, and-right}
+use borrow.Author.Tests.{eq-eqb, ne-eqb}
 use Rattle.codes.specs.Places.{ascends, placesEnd}
 use Rattle.codes.proofs.Climbs.{Climbs, climbs-start, climbs-on, climbs-done}
-use Rattle.blocks.specs.Block.{checkOf, checked, allZero, numberAt, numbersOf, sameList}
+use Rattle.blocks.specs.Block.{numberAt, numbersOf, sameList}
 use Rattle.blocks.proofs.Numbers.{number-drop, numbers-length, numbers-at}
-
--- ---- the check beside the one that a block holds
-pub checked-is : (b : List ℕ) (c low high : ℕ) → c ≡ checkOf b → low ≡ getD b 510 0 → high ≡ getD b 511 0 → eqb c (low + 256 * high) ≡ checked b
-unfolding checked
-checked-is b c low high e l h = rw (e, l, h)
-
--- ---- zeros: the answer for the whole part is that for the bytes before i, and from i on
-pub record Zeros (b : List ℕ) (from to i some : ℕ) : Type 0 where
-  pub left : i ≤ to
-  pub rest : allZero (slice from to b) ≡ (eqb some 0 && allZero (slice i to b))
-
-pub zeros-start : (b : List ℕ) (from to : ℕ) → from ≤ to → Zeros b from to from 0
-zeros-start b from to h = record { left = h; rest = refl }
-
--- no bit is set in either of two numbers
-pub or-zero : (x y : ℕ) → eqb (bitOr x y) 0 ≡ (eqb x 0 && eqb y 0)
-or-zero x y =
-    same-test (eqb (bitOr x y) 0) (eqb x 0 && eqb y 0)
-    (λ h. let e : bitOr x y ≡ 0 = eqb-true (bitOr x y) 0 h in
-    let s : bitOr x y + bitAnd x y ≡ x + y = or-add-and x y in
-    let p : bitAnd x y ≤ x = and-le-l x y in
-    let q : bitAnd x y ≤ y = and-le-r x y in
-    rw (eq-eqb x 0 (omega arith), eq-eqb y 0 (omega arith)))
-    (λ h. let s : bitOr x y + bitAnd x y ≡ x + y = or-add-and x y in
-    let p : x ≡ 0 = eqb-true x 0 (and-left (eqb x 0) (eqb y 0) h) in
-    let q : y ≡ 0 = eqb-true y 0 (and-right (eqb x 0) (eqb y 0) h) in
-    eq-eqb (bitOr x y) 0 (omega arith))
-
-module _ (b : List ℕ) (from to i some : ℕ) (v : Zeros b from to i some) where
-  pub zeros-done : to ≤ i → eqb some 0 ≡ allZero (slice from to b)
-  unfolding allZero
-  zeros-done h =
-      let e : i ≡ to = omega (arith, v .left) in
-      sym (v .rest ∙ ap (λ (j : ℕ). eqb some 0 && allZero (slice j to b)) e ∙ ap (λ (l : List ℕ). eqb some 0 && allZero l) (slice-empty to b) ∙ and-true (eqb some 0))
-
-  pub zeros-on : to ≤ length b → i < to → Zeros b from to (i + 1) (bitOr some (getD b i 0))
-  unfolding allZero
-  zeros-on k h =
-      record {
-        left = omega arith;
-        rest =
-            v .rest
-            ∙ ap (λ (l : List ℕ). eqb some 0 && allZero l) (slice-cons i to b 0 h k)
-            ∙ sym (and-assoc (eqb some 0) (eqb (getD b i 0) 0) (allZero (slice (suc i) to b)))
-            ∙ rw (or-zero some (getD b i 0), add-one);
-      }
 
 -- ---- ascending numbers: number k - 1 and number k of those from byte 8
 pub number-before : (b : List ℕ) (n k x : ℕ) → 1 ≤ k → k ≤ n → x ≡ numberAt b (4 + 4 * k) → x ≡ getD (numbersOf n (drop 8 b)) (k - 1) 0

@@ -12,7 +12,8 @@ use Rattle.blocks.proofs.Numbers.{number-drop}
 use Rattle.laws.proofs.Stores.{sets-then, push-text}
 use Rattle.codes.specs.Places.{capacity}
 use Rattle.codes.specs.Block.{Content}
-use Rattle.blocks.specs.Block.{bytes32, numberAt, numbersOf, flat, sealed, blockLength}
+use Rattle.checks.specs.Seal.{sealed, blockLength}
+use Rattle.blocks.specs.Block.{bytes32, numberAt, numbersOf, flat}
 use Rattle.blocks.specs.Content.{contentBytes, contentOf, holding}
 
 -- ---- numbers read: i of them

@@ -12,9 +12,10 @@ use Rattle.calendar.specs.Purge.{isPurge}
 use Rattle.calendar.specs.Window.{within, WindowOf}
 use Rattle.calendar.specs.declared.Window.{Window}
 use Rattle.codes.specs.Places.{ascends, capacity}
-use Rattle.blocks.specs.Block.{blockLength, checked, numberAt, numbersOf, allZero}
+use Rattle.checks.specs.Seal.{blockLength, checked, allZero}
+use Rattle.blocks.specs.Block.{numberAt, numbersOf}
 use Rattle.blocks.specs.Good.{isUsed}
-use Rattle.blocks.proofs.Forms.{zero-join}
+use Rattle.checks.proofs.Zeros.{zero-join}
 
 -- the tests in the code's order
 tests-join : (c g t r a p : Bool) → (c && g && t && r && a && p) ≡ (c && (true && true) && g && (r && t) && a && p)

@@ -1,36 +1,17 @@
--- Document 01, "The book": blocks of 512 bytes, their check, and the numbers in them.
+-- Document 01, "The book": blocks of 512 bytes, and the numbers in them.
 use Prim.Native.Nat.{ℕ, zero, suc, _+_, _*_, _/_, _%_, _<_}
 use mathlib.Core.List.{List, [], _∷_, _++_}
 use mathlib.Core.Bool.{Bool, true, false, _&&_}
-use lib.ListN.{take, drop, getD, set}
+use lib.ListN.{take, drop, getD}
 use lib.Dec.{eqb}
+use Rattle.checks.specs.Seal.{blockLength}
 
 -- "49 blocks of 512 bytes (25,088)"
-abbrev pub blockLength : ℕ
-blockLength = 512
-
 abbrev pub blockCount : ℕ
 blockCount = 49
 
 abbrev pub bookLength : ℕ
 bookLength = 25088
-
--- ---- the check
--- "the sum over i = 0..509 of (i+1)*byte i": over the i below n
-unfoldable pub sumTo : ℕ → List ℕ → ℕ
-sumTo zero b = 0
-sumTo (suc i) b = sumTo i b + suc i * getD b i 0
-
--- "(1 + the sum ..) modulo 65,521"
-unfoldable pub checkOf : List ℕ → ℕ
-checkOf b = (1 + sumTo 510 b) % 65521
-
--- "In each, bytes 510..511 hold, low byte first," the check
-unfoldable pub sealed : List ℕ → List ℕ
-sealed b = set (set b 510 (checkOf b % 256)) 511 (checkOf b / 256 % 256)
-
-unfoldable pub checked : List ℕ → Bool
-checked b = eqb (checkOf b) (getD b 510 0 + 256 * getD b 511 0)
 
 -- ---- "Wider numbers are stored low byte first."
 abbrev pub bytes32 : ℕ → List ℕ
@@ -55,11 +36,6 @@ putBlock k b book = take (k * blockLength) book ++ (b ++ drop blockLength (drop 
 -- ---- bytes are numbers below 256
 unfoldable pub Bytes : List ℕ → Type 0
 Bytes l = (i : ℕ) → getD l i 0 < 256
-
--- ---- "Unnamed and unused bytes are zero."
-unfoldable pub allZero : List ℕ → Bool
-allZero [] = true
-allZero (x ∷ xs) = eqb x 0 && allZero xs
 
 -- items one after another
 unfoldable pub flat : {X Y : Type 0} → (X → List Y) → List X → List Y

@@ -7,7 +7,8 @@ use lib.ListN.{length, drop, getD, replicate}
 use Rattle.calendar.specs.Purge.{isPurge}
 use Rattle.codes.specs.Places.{isSet}
 use Rattle.codes.specs.Block.{Content}
-use Rattle.blocks.specs.Block.{blockLength, bytes32, numberAt, numbersOf, flat, sealed}
+use Rattle.checks.specs.Seal.{blockLength, sealed}
+use Rattle.blocks.specs.Block.{bytes32, numberAt, numbersOf, flat}
 
 -- "A used block of these three kinds: 0..3 purge minute, 4 count 1..120, from 8 the place numbers, four bytes each, strictly ascending."
 unfoldable pub contentBytes : Content → List ℕ

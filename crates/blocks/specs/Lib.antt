@@ -1,5 +1,4 @@
 pub mod Block
-pub mod Columns
 pub mod Content
 pub mod Good
 pub mod Held

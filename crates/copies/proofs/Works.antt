@@ -14,7 +14,8 @@ use Rattle.refusal.specs.Numbers.{notTaken}
 use Rattle.refusal.specs.Answer.{Answer, ok, no, refused}
 use Rattle.codes.specs.Places.{capacity}
 use Rattle.codes.specs.Block.{Content}
-use Rattle.blocks.specs.Block.{sealed, blockOf, putBlock, Bytes}
+use Rattle.checks.specs.Seal.{sealed}
+use Rattle.blocks.specs.Block.{blockOf, putBlock, Bytes}
 use Rattle.blocks.specs.Content.{holding, isContent}
 use Rattle.blocks.proofs.Blocks.{put-other-block}
 use Rattle.blocks.proofs.Contents.{used-length}

@@ -9,9 +9,11 @@ use lib.ListN.{length, take, drop, getD, getElem?}
 use lib.Seq.{take-all}
 use borrow.Author.Tests.{le-leb, lt-leb, le-ltb}
 use Rattle.laws.proofs.Tests.{by, by-order}
-use Rattle.blocks.specs.Block.{blockLength, blockCount, numberAt, flat, blockOf, Bytes}
+use Rattle.checks.specs.Seal.{blockLength}
+use Rattle.blocks.specs.Block.{blockCount, numberAt, flat, blockOf, Bytes}
 use Rattle.blocks.specs.Content.{holding, contentOf, isContent}
-use Rattle.blocks.specs.Good.{isUsed, isUnused}
+use Rattle.checks.specs.Unused.{isUnused}
+use Rattle.blocks.specs.Good.{isUsed}
 use Rattle.blocks.proofs.Blocks.{block-length}
 use Rattle.blocks.proofs.Numbers.{bytes-block}
 use Rattle.blocks.proofs.Contents.{content-back, unused-back}

@@ -6,9 +6,10 @@ use native.Mathlib.Nat.{ne-of-gt}
 use native.Mathlib.Omega.{arith}
 use lib.ListN.{length, getD, length-append}
 use Rattle.codes.specs.Places.{upward}
-use Rattle.blocks.specs.Block.{blockLength, bookLength, flat, sealed, blockOf, putBlock}
+use Rattle.checks.specs.Seal.{blockLength, sealed}
+use Rattle.blocks.specs.Block.{bookLength, flat, blockOf, putBlock}
 use Rattle.blocks.proofs.Blocks.{cut, join, Wide, cut-at, cut-join, block-length, put-length, put-same-block, put-other-block, books-ext}
-use Rattle.blocks.proofs.Seals.{sealed-length}
+use Rattle.checks.proofs.Seals.{sealed-length}
 use Rattle.steps.specs.Book.{Book}
 use Rattle.layout.specs.Layout.{blockBytes, bytesOf}
 use Rattle.layout.specs.Lies.{Lies}

@@ -6,7 +6,8 @@ use native.Mathlib.Omega.{arith}
 use lib.ListN.{length, getD, getElem?, replicate, length-replicate, getD-replicate, length-append, List·getD-append, List·getD-eq-default}
 use lib.Seq.{getD-append-add}
 use Rattle.laws.proofs.Tests.{by-order}
-use Rattle.blocks.specs.Block.{blockLength, numberAt, flat}
+use Rattle.checks.specs.Seal.{blockLength}
+use Rattle.blocks.specs.Block.{numberAt, flat}
 use Rattle.blocks.proofs.Chunks.{flat-length, flat-get}
 use Rattle.blocks.proofs.Numbers.{number-forth}
 use Rattle.steps.specs.Book.{Copy, Draft, closed, working, Book, orClosed}

@@ -7,7 +7,7 @@ use lib.ListN.{length, getD, getElem?}
 use Rattle.blocks.specs.Block.{numberAt, blockOf}
 use Rattle.blocks.specs.Content.{holding}
 use Rattle.blocks.proofs.Blocks.{byte-of}
-use Rattle.blocks.proofs.Seals.{sealed-at}
+use Rattle.checks.proofs.Seals.{sealed-at}
 use Rattle.steps.specs.Book.{Copy, Draft, closed, Book}
 use Rattle.layout.specs.Layout.{draftBytes, stepBytes, Part, partOf, copiesOf, heldOf, heldIn, indexBytes, blockBytes}
 use Rattle.layout.specs.Lies.{Lies}

@@ -13,10 +13,11 @@ use Rattle.laws.proofs.Lists.{all-get}
 use Rattle.laws.specs.Lists.{All, all-nil, all-cons}
 use Rattle.laws.proofs.Lookups.{get-none, get-some}
 use Rattle.codes.specs.Block.{Content}
-use Rattle.blocks.specs.Block.{blockLength, checkOf, sealed}
+use Rattle.checks.specs.Seal.{blockLength, checkOf, sealed}
 use Rattle.blocks.specs.Content.{holding}
-use Rattle.blocks.specs.Good.{isUsed, isUnused}
-use Rattle.blocks.proofs.Seals.{sealed-length, sealed-again}
+use Rattle.checks.specs.Unused.{isUnused}
+use Rattle.blocks.specs.Good.{isUsed}
+use Rattle.checks.proofs.Seals.{sealed-length, sealed-again}
 use Rattle.blocks.proofs.Contents.{used-length, unused-length, content-forth, unused-forth, sound-true}
 use Rattle.steps.specs.Book.{Copy, Draft, closed, Book}
 use Rattle.layout.specs.Layout.{segmentOf, Part, segment, copy, before, partOf, copiesOf, heldOf, heldIn, indexBytes, blockBytes, bytesOf}

@@ -12,9 +12,11 @@ use lib.Dec.{ltb}
 use borrow.Author.Tests.{le-leb, eq-eqb}
 use Rattle.laws.proofs.Lists.{all-get}
 use Rattle.codes.specs.Places.{upward}
-use Rattle.blocks.specs.Block.{blockLength, bookLength, numberAt, allZero, sealed, checked}
-use Rattle.blocks.proofs.Seals.{sealed-length, sealed-at}
-use Rattle.blocks.proofs.Forms.{slice-zero, sealed-checked}
+use Rattle.checks.specs.Seal.{blockLength, allZero, sealed, checked}
+use Rattle.blocks.specs.Block.{bookLength, numberAt}
+use Rattle.checks.proofs.Seals.{sealed-length, sealed-at}
+use Rattle.checks.proofs.Zeros.{slice-zero}
+use Rattle.blocks.proofs.Forms.{sealed-checked}
 use Rattle.steps.specs.Book.{closed, Book}
 use Rattle.steps.specs.Calls.{stepsMost}
 use Rattle.layout.specs.Layout.{draftBytes, stepBytes, partOf, indexBytes, blockBytes, bytesOf}

@@ -10,9 +10,10 @@ use lib.Dec.{leb, eqb}
 use borrow.Author.Tests.{leb-true, eqb-true}
 use Rattle.laws.proofs.Tests.{and-left, and-right}
 use Rattle.codes.specs.Places.{upward}
-use Rattle.blocks.specs.Block.{bookLength, numberAt, allZero, checked, blockOf}
+use Rattle.checks.specs.Seal.{allZero, checked}
+use Rattle.blocks.specs.Block.{bookLength, numberAt, blockOf}
 use Rattle.blocks.proofs.Blocks.{byte-of}
-use Rattle.blocks.proofs.Forms.{zero-in}
+use Rattle.checks.proofs.Zeros.{zero-in}
 use Rattle.steps.specs.Calls.{stepsMost}
 use Rattle.laws.specs.Lists.{every}
 use Rattle.layout.specs.Sound.{isIssue}

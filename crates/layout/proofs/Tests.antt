@@ -11,7 +11,8 @@ use borrow.Author.Tests.{lt-leb, eq-eqb, ne-eqb, not-true, not-false}
 use Rattle.months.proofs.Laws.{start-issues}
 use Rattle.codes.specs.Places.{upward}
 use Rattle.blocks.specs.Block.{numberAt, blockOf, bookLength}
-use Rattle.blocks.specs.Good.{isUsed, isUnused}
+use Rattle.checks.specs.Unused.{isUnused}
+use Rattle.blocks.specs.Good.{isUsed}
 use Rattle.steps.specs.Calls.{stepsMost}
 use Rattle.laws.specs.Lists.{every}
 use Rattle.layout.specs.Sound.{isIssue}

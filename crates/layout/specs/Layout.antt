@@ -7,7 +7,8 @@ use lib.ListN.{length, getD, getElem?, replicate}
 use lib.Dec.{ltb, eqb}
 use Rattle.codes.specs.Places.{upward}
 use Rattle.codes.specs.Block.{Content}
-use Rattle.blocks.specs.Block.{blockCount, bytes32, numberAt, flat, sealed, blockOf}
+use Rattle.checks.specs.Seal.{sealed}
+use Rattle.blocks.specs.Block.{blockCount, bytes32, numberAt, flat, blockOf}
 use Rattle.blocks.specs.Content.{holding, contentOf}
 use Rattle.steps.specs.Book.{Copy, Draft, closed, working, Book, orClosed}
 

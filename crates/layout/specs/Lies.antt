@@ -3,7 +3,8 @@ use Prim.Native.Nat.{ℕ, suc, _≤_, _<_}
 use mathlib.Core.Path.{_≡_}
 use mathlib.Core.List.{List}
 use lib.ListN.{length}
-use Rattle.blocks.specs.Block.{bookLength, sealed, blockOf}
+use Rattle.checks.specs.Seal.{sealed}
+use Rattle.blocks.specs.Block.{bookLength, blockOf}
 use Rattle.steps.specs.Book.{Book}
 use Rattle.steps.specs.Calls.{stepsMost}
 use Rattle.layout.specs.Layout.{indexBytes, blockBytes}

@@ -7,8 +7,10 @@ use lib.Seq.{slice}
 use lib.Dec.{leb, ltb, eqb}
 use Rattle.laws.specs.Lists.{every}
 use Rattle.codes.specs.Places.{upward}
-use Rattle.blocks.specs.Block.{bookLength, numberAt, allZero, checked, blockOf}
-use Rattle.blocks.specs.Good.{isUsed, isUnused}
+use Rattle.checks.specs.Seal.{allZero, checked}
+use Rattle.blocks.specs.Block.{bookLength, numberAt, blockOf}
+use Rattle.checks.specs.Unused.{isUnused}
+use Rattle.blocks.specs.Good.{isUsed}
 use Rattle.steps.specs.Calls.{stepsMost}
 use Rattle.layout.specs.Layout.{copiesFrom, beforesFrom}
 use Rattle.layout.specs.Sound.{isIssue}

@@ -7,7 +7,8 @@ ghost use Prim.Native.Nat.{_≤_, _<_};
 ghost use lib.ListN.{length};
 ghost use Rattle.calendar.specs.Window.{WindowOf};
 ghost use Rattle.codes.specs.Places.{upward};
-ghost use Rattle.blocks.specs.Block.{blockLength, blockCount, bookLength, numberAt};
+ghost use Rattle.checks.specs.Seal.{blockLength};
+ghost use Rattle.blocks.specs.Block.{blockCount, bookLength, numberAt};
 ghost use Rattle.steps.specs.Calls.{stepsMost};
 ghost use Rattle.laws.specs.Lists.{every};
 ghost use Rattle.layout.specs.Sound.{isIssue};
@@ -122,13 +123,13 @@ fn is_index(b: &[u8]) -> bool
     if 16 < m {
         return false;
     }
-    let check = blocks::is_checked(b);
+    let check = checks::is_checked(b);
     let issue = blocks::number_at(b, 0);
-    let gap = blocks::all_zero(b, 5, 8);
+    let gap = checks::all_zero(b, 5, 8);
     let drafts = are_drafts(b);
-    let gap2 = blocks::all_zero(b, 25, 32);
+    let gap2 = checks::all_zero(b, 25, 32);
     let steps = are_steps(b, m);
-    let tail = blocks::all_zero(b, 32 + 2 * m, 510);
+    let tail = checks::all_zero(b, 32 + 2 * m, 510);
     check
         & (issue < 68374080)
         & ((1 <= n) & (n <= 8))
@@ -168,7 +169,7 @@ fn is_good(book: &[u8], k: usize, w: calendar::Window) -> bool
     if in_use {
         return blocks::is_used(&book[a..e], w);
     }
-    blocks::is_unused(&book[a..e])
+    checks::is_unused(&book[a..e])
 }
 
 // Whether the blocks from 1 on are good. The window is worked out once for all of them; an issue that block 0 may have has one.

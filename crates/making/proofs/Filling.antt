@@ -27,7 +27,8 @@ use Rattle.codes.specs.Block.{Read, counted, dated, contentIn, contentAt, readB
 use Rattle.bulletin.specs.Seen.{segmentsHeld, Sized}
 use Rattle.bulletin.specs.declared.Segment.{Segment}
 use Rattle.bulletin.specs.declared.Segments.{Segments}
-use Rattle.blocks.specs.Block.{bookLength, blockLength, blockCount, blockOf, putBlock}
+use Rattle.checks.specs.Seal.{blockLength}
+use Rattle.blocks.specs.Block.{bookLength, blockCount, blockOf, putBlock}
 use Rattle.blocks.specs.Content.{holding}
 use Rattle.blocks.proofs.Blocks.{put-length, put-same-block, put-other-block}
 use Rattle.blocks.proofs.Contents.{used-length}

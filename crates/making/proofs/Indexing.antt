@@ -11,10 +11,11 @@ use borrow.Author.Tests.{lt-ltb, le-ltb}
 use Rattle.laws.proofs.Tests.{by-order}
 use Rattle.laws.proofs.Lookups.{get-none}
 use Rattle.codes.specs.Block.{Content}
-use Rattle.blocks.specs.Block.{bookLength, blockLength, bytes32, checkOf, sealed, flat, blockOf, putBlock}
+use Rattle.checks.specs.Seal.{blockLength, checkOf, sealed}
+use Rattle.blocks.specs.Block.{bookLength, bytes32, flat, blockOf, putBlock}
 use Rattle.blocks.specs.Content.{holding}
 use Rattle.blocks.proofs.Blocks.{put-length, put-same-block, put-other-block}
-use Rattle.blocks.proofs.Seals.{sealed-again}
+use Rattle.checks.proofs.Seals.{sealed-again}
 use Rattle.steps.specs.Book.{closed, Book, orClosed, newBook}
 use Rattle.layout.specs.Layout.{Part, copy, before, partOf, copiesOf, heldOf, heldIn, indexBytes, blockBytes, bytesOf}
 use Rattle.layout.specs.Lies.{Lies}

@@ -14,7 +14,7 @@ use Rattle.codes.specs.Block.{Content}
 use Rattle.blocks.specs.Block.{bytes32, flat, blockOf, putBlock}
 use Rattle.blocks.specs.Content.{holding}
 use Rattle.blocks.proofs.Blocks.{block-length}
-use Rattle.blocks.proofs.Seals.{sealed-at}
+use Rattle.checks.proofs.Seals.{sealed-at}
 use Rattle.steps.specs.Book.{Copy, Book, put}
 use Rattle.layout.specs.Layout.{copy, before, partOf, heldIn, segmentOf, heldOf, orNone, draftBytes, back, indexBytes, blockBytes}
 use Rattle.layout.specs.Lies.{Lies}

@@ -13,9 +13,10 @@ use lib.Dec.{eqb}
 use borrow.Author.Tests.{eq-eqb, ne-eqb, eqb-true, eqb-false}
 use Rattle.laws.proofs.Tests.{by}
 use Rattle.codes.specs.Block.{Content}
-use Rattle.blocks.specs.Block.{bookLength, sealed, blockOf, putBlock}
+use Rattle.checks.specs.Seal.{sealed}
+use Rattle.blocks.specs.Block.{bookLength, blockOf, putBlock}
 use Rattle.blocks.specs.Content.{holding}
-use Rattle.blocks.proofs.Seals.{sealed-again}
+use Rattle.checks.proofs.Seals.{sealed-again}
 use Rattle.blocks.proofs.Contents.{unused-length}
 use Rattle.blocks.proofs.Blocks.{block-length, put-length, put-same-block, put-other-block, byte-of}
 

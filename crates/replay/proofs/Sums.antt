@@ -7,8 +7,8 @@ use mathlib.Core.List.{List}
 use lib.ListN.{length, getD}
 use mir.Syntax.{w64}
 use mir.Val.{Fits}
-use Rattle.blocks.specs.Block.{sumTo}
-use Rattle.blocks.proofs.Columns.{sum-more}
+use Rattle.checks.specs.Seal.{sumTo}
+use Rattle.checks.proofs.Columns.{sum-more}
 use Rattle.replay.specs.Lines.{weightedSum}
 
 pub weighed : (i b : ℕ) → i < 30000 → b < 256 → (i + 1) * b ≤ 7650000

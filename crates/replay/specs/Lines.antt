@@ -9,7 +9,7 @@ use Rattle.laws.specs.Lists.{every}
 use Rattle.lines.specs.Bytes.{Kind, digit, word, begins}
 use Rattle.lines.specs.Lines.{glue}
 use Rattle.lines.specs.Spans.{part}
-use Rattle.blocks.specs.Block.{sumTo}
+use Rattle.checks.specs.Seal.{sumTo}
 use Rattle.heading.specs.Heading.{times}
 use Rattle.printing.specs.Asked.{YearMonth, askedOf}
 use Rattle.replay.specs.declared.Number.{Number}

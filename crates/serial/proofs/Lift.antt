@@ -9,7 +9,7 @@ use Rattle.laws.specs.Lists.{all-nil, all-cons}
 use Rattle.refusal.specs.Answer.{Answer, ok, no, andThen}
 use Rattle.codes.specs.Block.{Content}
 use Rattle.blocks.specs.Block.{blockCount, flat, blockOf}
-use Rattle.blocks.proofs.Seals.{sealed-at}
+use Rattle.checks.proofs.Seals.{sealed-at}
 use Rattle.steps.specs.Book.{Book, newBook}
 use Rattle.steps.specs.Calls.{Call, Value, settle, bookRule, step}
 use Rattle.layout.specs.Layout.{draftBytes, front, back, indexBytes, copiesFrom, beforesFrom, blockBytes, bytesOf}

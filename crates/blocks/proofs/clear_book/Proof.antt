@@ -1,6 +1,6 @@
 use borrow.Author.Needs.{needs}
 use Prim.Native.Nat.{_-_}
-use Rattle.blocks.proofs.Unused.{Emptied, emptied-start, emptied-on, emptied-done}
+use Rattle.blocks.proofs.Emptied.{Emptied, emptied-start, emptied-on, emptied-done}
 use Rattle.blocks.proofs.clear_book.Statement.{statement}
 use Rattle.blocks.proofs.clear_book.Tie as tie
 

@@ -1,5 +1,5 @@
 use Rattle.blocks.proofs.Blocks.{put-made}
-use Rattle.blocks.specs.Block.{sealed}
+use Rattle.checks.specs.Seal.{sealed}
 use borrow.Author.Needs.{needs}
 use Rattle.blocks.proofs.seal_block.Statement.{statement}
 use Rattle.blocks.proofs.seal_block.Tie as tie

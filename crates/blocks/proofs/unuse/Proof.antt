@@ -1,5 +1,5 @@
 use borrow.Author.Needs.{needs}
-use Rattle.blocks.proofs.Unused.{none-made}
+use Rattle.blocks.proofs.Emptied.{none-made}
 use Rattle.blocks.proofs.unuse.Statement.{statement}
 use Rattle.blocks.proofs.unuse.Tie as tie
 

@@ -1,6 +1,7 @@
 use mathlib.Core.Path.{sym, _∙_}
 use Rattle.blocks.specs.Block.{numberAt}
-use Rattle.blocks.specs.Good.{isUsed, isUnused}
+use Rattle.checks.specs.Unused.{isUnused}
+use Rattle.blocks.specs.Good.{isUsed}
 use Rattle.blocks.proofs.Blocks.{part-read}
 use Rattle.layout.proofs.Tests.{good-used, good-unused}
 use borrow.Author.Needs.{needs}

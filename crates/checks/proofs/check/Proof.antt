@@ -1,7 +1,7 @@
-use Rattle.blocks.proofs.Columns.{low-in, high-in, check-columns}
+use Rattle.checks.proofs.Columns.{low-in, high-in, check-columns}
 use borrow.Author.Needs.{needs}
-use Rattle.blocks.proofs.check.Statement.{statement}
-use Rattle.blocks.proofs.check.Tie as tie
+use Rattle.checks.proofs.check.Statement.{statement}
+use Rattle.checks.proofs.check.Tie as tie
 
 pub check-spec : {M : Type 1} → statement M
 check-spec =

@@ -1,9 +1,9 @@
 use Prim.Native.Nat.{_-_}
 use lib.ListN.{length}
-use Rattle.blocks.proofs.Copies.{Cleared, cleared-start, cleared-on, cleared-done}
+use Rattle.checks.proofs.Zeros.{Cleared, cleared-start, cleared-on, cleared-done}
 use borrow.Author.Needs.{needs}
-use Rattle.blocks.proofs.clear.Statement.{statement}
-use Rattle.blocks.proofs.clear.Tie as tie
+use Rattle.checks.proofs.clear.Statement.{statement}
+use Rattle.checks.proofs.clear.Tie as tie
 
 abbrev Inv-loop : tie.InvT-loop
 Inv-loop b₀ i₀ b i = Cleared b₀ b i

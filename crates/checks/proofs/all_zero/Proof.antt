@@ -1,8 +1,8 @@
 use borrow.Author.Needs.{needs}
 use Prim.Native.Nat.{_-_}
-use Rattle.blocks.proofs.Scans.{Zeros, zeros-start, zeros-on, zeros-done}
-use Rattle.blocks.proofs.all_zero.Statement.{statement}
-use Rattle.blocks.proofs.all_zero.Tie as tie
+use Rattle.checks.proofs.Zeros.{Zeros, zeros-start, zeros-on, zeros-done}
+use Rattle.checks.proofs.all_zero.Statement.{statement}
+use Rattle.checks.proofs.all_zero.Tie as tie
 
 abbrev Inv-loop : tie.InvT-loop
 Inv-loop b from to some₀ i₀ some i = Zeros b from to i some

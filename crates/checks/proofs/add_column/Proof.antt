@@ -1,9 +1,9 @@
 use native.Mathlib.Omega.{arith}
-use Rattle.blocks.specs.Columns.{columnSum, columnRows}
-use Rattle.blocks.proofs.Columns.{store-same}
+use Rattle.checks.specs.Columns.{columnSum, columnRows}
+use Rattle.checks.proofs.Columns.{store-same}
 use borrow.Author.Needs.{needs}
-use Rattle.blocks.proofs.add_column.Statement.{statement}
-use Rattle.blocks.proofs.add_column.Tie as tie
+use Rattle.checks.proofs.add_column.Statement.{statement}
+use Rattle.checks.proofs.add_column.Tie as tie
 
 returns : tie.Need-returns
 unfolding columnSum columnRows

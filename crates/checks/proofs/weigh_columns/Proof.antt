@@ -1,9 +1,9 @@
 use native.Mathlib.Omega.{arith}
 use borrow.Author.Needs.{needs}
 use Prim.Native.Nat.{_-_}
-use Rattle.blocks.proofs.Columns.{Weighing, weighing-start, weighing-on, weighing-done, weighing-small, column-small}
-use Rattle.blocks.proofs.weigh_columns.Statement.{statement}
-use Rattle.blocks.proofs.weigh_columns.Tie as tie
+use Rattle.checks.proofs.Columns.{Weighing, weighing-start, weighing-on, weighing-done, weighing-small, column-small}
+use Rattle.checks.proofs.weigh_columns.Statement.{statement}
+use Rattle.checks.proofs.weigh_columns.Tie as tie
 
 abbrev Inv-loop : tie.InvT-loop
 Inv-loop sums rows sum₀ j₀ sum j = Weighing sums rows j sum

@@ -1,8 +1,8 @@
 use borrow.Author.Needs.{needs}
 use Prim.Native.Nat.{_-_}
-use Rattle.blocks.proofs.Unused.{Blank, blank-start, blank-on, blank-done}
-use Rattle.blocks.proofs.is_blank.Statement.{statement}
-use Rattle.blocks.proofs.is_blank.Tie as tie
+use Rattle.checks.proofs.Unused.{Blank, blank-start, blank-on, blank-done}
+use Rattle.checks.proofs.is_blank.Statement.{statement}
+use Rattle.checks.proofs.is_blank.Tie as tie
 
 abbrev Inv-loop : tie.InvT-loop
 Inv-loop b some₀ j₀ some j = Blank b j some

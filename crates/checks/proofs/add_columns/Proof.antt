@@ -1,8 +1,8 @@
 use borrow.Author.Needs.{needs}
 use Prim.Native.Nat.{_-_}
-use Rattle.blocks.proofs.Columns.{Adding, adding-start, adding-on, adding-done}
-use Rattle.blocks.proofs.add_columns.Statement.{statement}
-use Rattle.blocks.proofs.add_columns.Tie as tie
+use Rattle.checks.proofs.Columns.{Adding, adding-start, adding-on, adding-done}
+use Rattle.checks.proofs.add_columns.Statement.{statement}
+use Rattle.checks.proofs.add_columns.Tie as tie
 
 abbrev Inv-loop : tie.InvT-loop
 Inv-loop b sums₀ rows₀ j₀ sums rows j = Adding b sums rows j

@@ -1,7 +1,7 @@
-use Rattle.blocks.specs.Block.{sealed}
+use Rattle.checks.specs.Seal.{sealed}
 use borrow.Author.Needs.{needs}
-use Rattle.blocks.proofs.seal.Statement.{statement}
-use Rattle.blocks.proofs.seal.Tie as tie
+use Rattle.checks.proofs.seal.Statement.{statement}
+use Rattle.checks.proofs.seal.Tie as tie
 
 returns : tie.Need-returns
 unfolding sealed

@@ -1,7 +1,7 @@
-use Rattle.blocks.proofs.Unused.{unused-is}
+use Rattle.checks.proofs.Unused.{unused-is}
 use borrow.Author.Needs.{needs}
-use Rattle.blocks.proofs.is_unused.Statement.{statement}
-use Rattle.blocks.proofs.is_unused.Tie as tie
+use Rattle.checks.proofs.is_unused.Statement.{statement}
+use Rattle.checks.proofs.is_unused.Tie as tie
 
 pub is-unused-spec : {M : Type 1} → statement M
 is-unused-spec =

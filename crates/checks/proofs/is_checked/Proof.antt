@@ -1,7 +1,7 @@
-use Rattle.blocks.proofs.Scans.{checked-is}
+use Rattle.checks.proofs.Seals.{checked-is}
 use borrow.Author.Needs.{needs}
-use Rattle.blocks.proofs.is_checked.Statement.{statement}
-use Rattle.blocks.proofs.is_checked.Tie as tie
+use Rattle.checks.proofs.is_checked.Statement.{statement}
+use Rattle.checks.proofs.is_checked.Tie as tie
 
 pub is-checked-spec : {M : Type 1} → statement M
 is-checked-spec =

@@ -8,8 +8,8 @@ use mathlib.Core.List.{List}
 use lib.ListN.{length, getD, set, length-set}
 use lib.Seq.{getD-set-same, getD-set-other}
 use Rattle.laws.proofs.Tests.{by-order}
-use Rattle.blocks.specs.Block.{sumTo, checkOf}
-use Rattle.blocks.specs.Columns.{rowByte, columnSum, columnRows, weighed, ColumnsIn}
+use Rattle.checks.specs.Seal.{sumTo, checkOf}
+use Rattle.checks.specs.Columns.{rowByte, columnSum, columnRows, weighed, ColumnsIn}
 
 -- ---- the sum, row by row and column by column
 -- what the first k bytes of a row add to the sum

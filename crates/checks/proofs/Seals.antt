@@ -7,7 +7,8 @@ use native.Mathlib.Nat.{ne-of-lt, ne-of-gt}
 use native.Mathlib.Omega.{arith}
 use lib.ListN.{length, getD, set, length-set}
 use lib.Seq.{getD-set-other, set-set, set-comm}
-use Rattle.blocks.specs.Block.{sumTo, checkOf, sealed}
+use lib.Dec.{eqb}
+use Rattle.checks.specs.Seal.{sumTo, checkOf, sealed, checked}
 
 -- the sum does not see a store behind it
 sum-set : (n i v : ℕ) (b : List ℕ) → n ≤ i → sumTo n (set b i v) ≡ sumTo n b
@@ -45,3 +46,8 @@ sealed-again m x y =
     ∙ ap (λ (l : List ℕ). set l 511 (checkOf m / 256 % 256)) (set-comm (set m 510 x) 511 510 y (checkOf m % 256) (ne-of-gt (omega arith)))
     ∙ set-set (set (set m 510 x) 510 (checkOf m % 256)) 511 y (checkOf m / 256 % 256)
     ∙ ap (λ (l : List ℕ). set l 511 (checkOf m / 256 % 256)) (set-set m 510 x (checkOf m % 256))
+
+-- ---- the check beside the one that a block holds
+pub checked-is : (b : List ℕ) (c low high : ℕ) → c ≡ checkOf b → low ≡ getD b 510 0 → high ≡ getD b 511 0 → eqb c (low + 256 * high) ≡ checked b
+unfolding checked
+checked-is b c low high e l h = rw (e, l, h)

@@ -1,0 +1,4 @@
+pub mod Seals
+pub mod Columns
+pub mod Zeros
+pub mod Unused

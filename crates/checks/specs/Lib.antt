@@ -1,0 +1,3 @@
+pub mod Seal
+pub mod Columns
+pub mod Unused
