@@ -20,9 +20,10 @@ use Rattle.refusal.specs.declared.Refusal.{Refusal}
 use Rattle.codes.specs.Places.{capacity}
 use Rattle.codes.specs.Block.{contentAt}
 use Rattle.reading.specs.Placed.{placedAt}
-use Rattle.reading.specs.Held.{Good, contentFor}
+use Rattle.sets.specs.Held.{Good}
+use Rattle.reading.specs.Held.{contentFor}
 use Rattle.reading.proofs.Placing.{content-told}
-use Rattle.reading.specs.declared.Places.{Places}
+use Rattle.sets.specs.declared.Places.{Places}
 use Rattle.reading.specs.declared.Content.{Content}
 use Rattle.reading.specs.declared.Purge.the-variants as purge
 use Rattle.bulletin.specs.Seen.{Sized}

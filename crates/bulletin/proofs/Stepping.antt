@@ -17,7 +17,8 @@ use Rattle.lines.specs.Lines.{Line, isEnd, opens}
 use Rattle.lines.specs.Spans.{spanAt}
 use Rattle.lines.proofs.Ends.{nextOf, lineAt, lines-step}
 use Rattle.reading.specs.Placed.{Placed, placedAt}
-use Rattle.reading.specs.Held.{Good, placesIn, contentFor}
+use Rattle.sets.specs.Held.{Good, placesIn}
+use Rattle.reading.specs.Held.{contentFor}
 use Rattle.reading.specs.declared.Content.{Content}
 use Rattle.reading.specs.declared.Purge.the-variants as purge
 use Rattle.reading.proofs.Placing.{placed-back, refused-back, placed-parts}

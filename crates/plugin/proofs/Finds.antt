@@ -14,9 +14,10 @@ use Rattle.refusal.specs.declared.Refusal.{Refusal}
 use Rattle.codes.specs.Block as codes
 use Rattle.codes.specs.Block.{contentAt}
 use Rattle.reading.specs.Placed.{placedAt}
-use Rattle.reading.specs.Held.{Good, contentFor, contentBy, paperContent}
+use Rattle.sets.specs.Held.{Good}
+use Rattle.reading.specs.Held.{contentFor, contentBy, paperContent}
 use Rattle.reading.proofs.Placing.{content-told}
-use Rattle.reading.specs.Held as held
+use Rattle.sets.specs.Held as held
 use Rattle.reading.specs.declared.Purge.{Purge}
 use Rattle.reading.specs.declared.Purge.the-variants as purge
 use Rattle.reading.specs.declared.Content.{Content}

@@ -23,18 +23,20 @@ use Rattle.codes.specs.declared.Step.{Step}
 use Rattle.codes.proofs.Bounds.{Below}
 use Rattle.codes.proofs.Steps.{readThen, read-step, Ahead, step-ahead}
 use Rattle.codes.proofs.Twice.{twiceThen, twice-step, Some, Both, gathered, before-gathered, gathered-before}
-use Rattle.reading.specs.Held.{vacant, placesFor, placesIn, Good, bareFor, blockFor}
-use Rattle.reading.specs.Runs.{capped, kept, heldBy, heldAfter, isOver, isTwice, holdsIn, Grown, Known, readOn, restOf, overFor}
-use Rattle.reading.specs.declared.Places.{Places}
-use Rattle.reading.specs.declared.Put.{Put}
-use Rattle.reading.specs.declared.Put.the-variants as put
+use Rattle.sets.specs.Held.{vacant, placesFor, placesIn, Good}
+use Rattle.sets.specs.Runs.{capped, kept, heldBy, heldAfter, isOver, isTwice, holdsIn, Grown}
+use Rattle.sets.specs.declared.Places.{Places}
+use Rattle.sets.specs.declared.Put.{Put}
+use Rattle.sets.specs.declared.Put.the-variants as put
+use Rattle.sets.proofs.Searches.{holds-in, holds-out}
+use Rattle.sets.proofs.Sets.{held-many, held-is}
+use Rattle.reading.specs.Held.{bareFor, blockFor}
+use Rattle.reading.specs.Rests.{Known, readOn, restOf, overFor}
 use Rattle.reading.specs.declared.Rest.{Rest}
 use Rattle.reading.specs.declared.Rest.the-variants as rest
 use Rattle.reading.specs.declared.Block.{Block}
 use Rattle.reading.specs.declared.Found.{Found}
 use Rattle.reading.specs.declared.Found.the-variants as found
-use Rattle.reading.proofs.Searches.{holds-in, holds-out}
-use Rattle.reading.proofs.Sets.{held-many, held-is}
 use Rattle.reading.proofs.Rests.{rest-any, read-long, below-known}
 
 -- places by value are those that are held, and zeros behind them

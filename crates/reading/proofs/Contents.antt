@@ -16,9 +16,10 @@ use Rattle.calendar.specs.declared.Stamp.{Stamp}
 use Rattle.calendar.specs.declared.Moment.{Moment}
 use Rattle.calendar.specs.declared.Moment.the-variants as moment
 use Rattle.codes.specs.Block.{Read, block, wrongAt, readBlock, twiceAt, dated, contentIn, contentAt}
+use Rattle.sets.specs.Held.{placesFor, Good}
+use Rattle.sets.specs.declared.Places.{Places}
 use Rattle.reading.specs.Placed.{purgePlace, Placed, placedAt}
-use Rattle.reading.specs.Held.{placesFor, wholeFor, blockFor, contentFor, Good}
-use Rattle.reading.specs.declared.Places.{Places}
+use Rattle.reading.specs.Held.{wholeFor, blockFor, contentFor}
 use Rattle.reading.specs.declared.Found.{Found}
 use Rattle.reading.specs.declared.Found.the-variants.{Whole, Twice, Wrong}
 use Rattle.reading.specs.declared.Block.{Block}

@@ -1,5 +1,3 @@
-pub mod Searches
-pub mod Sets
 pub mod Rests
 pub mod Blocks
 pub mod Contents

@@ -11,9 +11,10 @@ use Rattle.refusal.specs.declared.Refusal.{Refusal}
 use Rattle.calendar.specs.Purge.{purgeOf}
 use Rattle.codes.specs.Block as codes
 use Rattle.codes.specs.Block.{Read, block, wrongAt, readBlock, twiceAt, contentIn, contentAt}
+use Rattle.sets.specs.Held.{vacant, placesFor, placesIn}
+use Rattle.sets.specs.declared.Places.{Places}
 use Rattle.reading.specs.Placed.{purgePlace, Placed, placedAt}
-use Rattle.reading.specs.Held.{vacant, placesFor, placesIn, contentFor, contentBy, paperContent}
-use Rattle.reading.specs.declared.Places.{Places}
+use Rattle.reading.specs.Held.{contentFor, contentBy, paperContent}
 use Rattle.reading.specs.declared.Purge.{Purge}
 use Rattle.reading.specs.declared.Purge.the-variants.{At, Refused}
 use Rattle.reading.specs.declared.Content.{Content}

@@ -24,7 +24,7 @@ use Rattle.repeats.specs.Passes.{paperTwice}
 use Rattle.repeats.specs.declared.Twice.{Twice}
 use Rattle.repeats.specs.declared.Twice.the-variants as twice
 use Rattle.reading.specs.Held.{bareFor}
-use Rattle.reading.specs.Runs.{Known, readOn, restOf, manyFor, overFor}
+use Rattle.reading.specs.Rests.{Known, readOn, restOf, manyFor, overFor}
 use Rattle.reading.specs.declared.Block.{Block}
 use Rattle.reading.specs.declared.Found.the-variants as found
 use Rattle.reading.specs.declared.Rest.{Rest}

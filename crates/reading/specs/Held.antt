@@ -1,41 +1,23 @@
--- Serves the code: what its types mean, places held by value and the answers of reading a block. Each answer is one of these values and no other.
-use Prim.Native.Nat.{ℕ, _≤_}
-use mathlib.Core.Path.{_≡_}
-use mathlib.Core.List.{List, [], _++_}
+-- Serves the code: what its types mean, the answers of reading a block. Each answer is one of these values and no other.
+use Prim.Native.Nat.{ℕ}
+use mathlib.Core.List.{List, []}
 use mathlib.Core.Bool.{Bool, true, false, cond}
 use mathlib.Core.Option.{Option, none, some}
-use lib.ListN.{length, take, drop, replicate}
+use lib.ListN.{length}
 use lib.Dec.{leb}
 use Rattle.refusal.specs.Answer.{Answer, ok, no, paperRefusal}
 use Rattle.calendar.specs.declared.Stamp.{Stamp}
-use Rattle.codes.specs.Places.{Ascending, capacity}
+use Rattle.codes.specs.Places.{capacity}
 use Rattle.codes.specs.Block as codes
+use Rattle.sets.specs.Held.{placesFor, placesIn}
+use Rattle.sets.specs.declared.Places.{Places}
 use Rattle.reading.specs.Placed.{Placed}
-use Rattle.reading.specs.declared.Places.{Places}
 use Rattle.reading.specs.declared.Found.{Found}
 use Rattle.reading.specs.declared.Found.the-variants.{Whole, Twice, Wrong}
 use Rattle.reading.specs.declared.Block.{Block}
 use Rattle.reading.specs.declared.Purge.{Purge}
 use Rattle.reading.specs.declared.Purge.the-variants.{At, Refused}
 use Rattle.reading.specs.declared.Content.{Content}
-
--- an array that holds no place
-unfoldable pub vacant : List ℕ
-vacant = replicate capacity 0
-
--- ---- places by value: these, and zeros behind them
-abbrev pub placesFor : List ℕ → Places
-placesFor ps = record { held = ps ++ drop (length ps) vacant; count = length ps }
-
-abbrev pub placesIn : Places → List ℕ
-placesIn t = take (t .count) (t .held)
-
--- what the code keeps true of them
-pub record Good (t : Places) : Type 0 where
-  pub long : length (t .held) ≡ capacity
-  pub few : t .count ≤ capacity
-  pub rising : Ascending 0 (placesIn t)
-  pub rest : drop (t .count) (t .held) ≡ drop (t .count) vacant
 
 -- ---- a block: DDHHMM, the place of the purge element and the places, if they are few enough; the place of the first element that covers a place already covered;
 -- or that of the first wrong element

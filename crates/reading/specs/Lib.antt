@@ -1,3 +1,3 @@
 pub mod Placed
 pub mod Held
-pub mod Runs
+pub mod Rests

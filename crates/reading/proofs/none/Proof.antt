@@ -1,5 +1,5 @@
 use mathlib.Core.Path.{refl}
-use Rattle.reading.specs.Held.{vacant}
+use Rattle.sets.specs.Held.{vacant}
 use Rattle.reading.proofs.none.Statement.{statement}
 use Rattle.reading.proofs.none.Tie as tie
 

@@ -1,7 +1,7 @@
 use borrow.Author.Needs.{needs}
-use Rattle.reading.proofs.Searches.{less-in, less-out}
-use Rattle.reading.proofs.is_less.Statement.{statement}
-use Rattle.reading.proofs.is_less.Tie as tie
+use Rattle.sets.proofs.Searches.{less-in, less-out}
+use Rattle.sets.proofs.is_less.Statement.{statement}
+use Rattle.sets.proofs.is_less.Tie as tie
 
 mul-result : tie.Need-mul-result
 mul-result c = search needs

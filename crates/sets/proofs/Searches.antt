@@ -16,8 +16,8 @@ use Rattle.codes.specs.Serving.{First}
 use Rattle.codes.specs.Block.{Stretch}
 use Rattle.codes.proofs.Members.{first-none}
 use Rattle.codes.proofs.Twice.{Both}
-use Rattle.reading.specs.Held.{vacant, Good}
-use Rattle.reading.specs.Runs.{kept, allBelow, holdsIn}
+use Rattle.sets.specs.Held.{vacant, Good}
+use Rattle.sets.specs.Runs.{kept, allBelow, holdsIn}
 
 -- ---- places that ascend
 from-bound : {b : ℕ} {l : List ℕ} → Ascending b l → (j : ℕ) → j < length l → b ≤ getD l j 0

@@ -1,7 +1,7 @@
-use Rattle.reading.proofs.Sets.{append-over, append-total}
+use Rattle.sets.proofs.Sets.{append-over, append-total}
 use borrow.Author.Needs.{needs}
-use Rattle.reading.proofs.append.Statement.{statement}
-use Rattle.reading.proofs.append.Tie as tie
+use Rattle.sets.proofs.append.Statement.{statement}
+use Rattle.sets.proofs.append.Tie as tie
 
 pub append-spec : {M : Type 1} → statement M
 append-spec =

@@ -1,7 +1,7 @@
-use Rattle.reading.proofs.Searches.{none-below, last-below}
+use Rattle.sets.proofs.Searches.{none-below, last-below}
 use borrow.Author.Needs.{needs}
-use Rattle.reading.proofs.are_below.Statement.{statement}
-use Rattle.reading.proofs.are_below.Tie as tie
+use Rattle.sets.proofs.are_below.Statement.{statement}
+use Rattle.sets.proofs.are_below.Tie as tie
 
 pub are-below-spec : {M : Type 1} → statement M
 are-below-spec =

@@ -1,7 +1,7 @@
 use borrow.Author.Needs.{needs}
-use Rattle.reading.proofs.Sets.{grown-as}
-use Rattle.reading.proofs.cover.Statement.{statement}
-use Rattle.reading.proofs.cover.Tie as tie
+use Rattle.sets.proofs.Sets.{grown-as}
+use Rattle.sets.proofs.cover.Statement.{statement}
+use Rattle.sets.proofs.cover.Tie as tie
 
 mul-narrow : tie.Need-mul-narrow
 mul-narrow c = search needs

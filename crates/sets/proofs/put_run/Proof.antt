@@ -1,6 +1,6 @@
 use borrow.Author.Needs.{needs}
-use Rattle.reading.proofs.put_run.Statement.{statement}
-use Rattle.reading.proofs.put_run.Tie as tie
+use Rattle.sets.proofs.put_run.Statement.{statement}
+use Rattle.sets.proofs.put_run.Tie as tie
 
 pub put-run-spec : {M : Type 1} → statement M
 put-run-spec =

@@ -1,7 +1,7 @@
 use borrow.Author.Needs.{needs}
-use Rattle.reading.proofs.Sets.{Moved, moved-start, moved-on, moved-done}
-use Rattle.reading.proofs.move_up.Statement.{statement}
-use Rattle.reading.proofs.move_up.Tie as tie
+use Rattle.sets.proofs.Sets.{Moved, moved-start, moved-on, moved-done}
+use Rattle.sets.proofs.move_up.Statement.{statement}
+use Rattle.sets.proofs.move_up.Tie as tie
 
 abbrev Inv-loop : tie.InvT-loop
 Inv-loop held₀ from to m k₀ held k = Moved held₀ held from to m k

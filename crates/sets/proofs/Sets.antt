@@ -18,12 +18,12 @@ use Rattle.codes.specs.Places.{placesEnd, upward}
 use Rattle.codes.specs.Serving.{First}
 use Rattle.codes.specs.Block.{insertRun}
 use Rattle.codes.proofs.Members.{run-split, below-take, from-drop, run-ascending}
-use Rattle.reading.specs.Held.{vacant, placesIn, Good}
-use Rattle.reading.specs.Runs.{capped, kept, heldBy, holdsIn, allBelow, Grown}
-use Rattle.reading.specs.declared.Places.{Places}
-use Rattle.reading.specs.declared.Put.{Put}
-use Rattle.reading.specs.declared.Put.the-variants.{Total, Over, Twice}
-use Rattle.reading.proofs.Searches.{below-each, below-out, between-out, less-first, less-held}
+use Rattle.sets.specs.Held.{vacant, placesIn, Good}
+use Rattle.sets.specs.Runs.{capped, kept, heldBy, holdsIn, allBelow, Grown}
+use Rattle.sets.specs.declared.Places.{Places}
+use Rattle.sets.specs.declared.Put.{Put}
+use Rattle.sets.specs.declared.Put.the-variants.{Total, Over, Twice}
+use Rattle.sets.proofs.Searches.{below-each, below-out, between-out, less-first, less-held}
 
 -- ---- moved up
 pub record Moved (held₀ held : List ℕ) (from to m k : ℕ) : Type 0 where

@@ -1,7 +1,7 @@
 use borrow.Author.Needs.{needs}
-use Rattle.reading.proofs.Searches.{one-more, no-more}
-use Rattle.reading.proofs.count_less.Statement.{statement}
-use Rattle.reading.proofs.count_less.Tie as tie
+use Rattle.sets.proofs.Searches.{one-more, no-more}
+use Rattle.sets.proofs.count_less.Statement.{statement}
+use Rattle.sets.proofs.count_less.Tie as tie
 
 add-result : tie.Need-add-result
 add-result c = search needs

@@ -1,8 +1,8 @@
 use borrow.Author.Needs.{needs}
 use Prim.Native.Nat.{_-_}
-use Rattle.reading.proofs.Searches.{Counted, counted-start, counted-few, counted-on, counted-done, counted-most, counted-room, first-zero}
-use Rattle.reading.proofs.first_from.Statement.{statement}
-use Rattle.reading.proofs.first_from.Tie as tie
+use Rattle.sets.proofs.Searches.{Counted, counted-start, counted-few, counted-on, counted-done, counted-most, counted-room, first-zero}
+use Rattle.sets.proofs.first_from.Statement.{statement}
+use Rattle.sets.proofs.first_from.Tie as tie
 
 abbrev Inv-loop : tie.InvT-loop
 Inv-loop held n p end less₀ k₀ less k = Counted held n p less k

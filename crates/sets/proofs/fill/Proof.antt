@@ -1,8 +1,8 @@
 use borrow.Author.Needs.{needs}
 use Prim.Native.Nat.{_-_}
-use Rattle.reading.proofs.Sets.{Filling, filling-start, filling-on, filling-done}
-use Rattle.reading.proofs.fill.Statement.{statement}
-use Rattle.reading.proofs.fill.Tie as tie
+use Rattle.sets.proofs.Sets.{Filling, filling-start, filling-on, filling-done}
+use Rattle.sets.proofs.fill.Statement.{statement}
+use Rattle.sets.proofs.fill.Tie as tie
 
 abbrev Inv-loop : tie.InvT-loop
 Inv-loop held₀ at n p k₀ q₀ held k q = Filling held₀ held at n p k q

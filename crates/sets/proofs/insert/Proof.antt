@@ -1,7 +1,7 @@
 use borrow.Author.Needs.{needs}
-use Rattle.reading.proofs.Sets.{insert-twice, insert-over, insert-total}
-use Rattle.reading.proofs.insert.Statement.{statement}
-use Rattle.reading.proofs.insert.Tie as tie
+use Rattle.sets.proofs.Sets.{insert-twice, insert-over, insert-total}
+use Rattle.sets.proofs.insert.Statement.{statement}
+use Rattle.sets.proofs.insert.Tie as tie
 
 sub-wide : tie.Need-sub-wide
 sub-wide c = search needs
