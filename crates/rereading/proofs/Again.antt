@@ -33,7 +33,7 @@ use Rattle.keeping.proofs.Keeping.{new-sound}
 use Rattle.making.specs.Make.{bookFrom, makeRule}
 use Rattle.making.proofs.Made.{read-back}
 use Rattle.making.proofs.Sounding.{must-true, made-dated, made-sound}
-use Rattle.sending.specs.Edited.{edited, writtenForms}
+use Rattle.forms.specs.Edited.{edited, writtenForms}
 use Rattle.sending.specs.Send.{editedRule}
 use Rattle.rereading.specs.Demand.{blockText, InWrittenForm, Agrees, MadeAgain}
 use Rattle.rereading.proofs.Ordered.{own-blocks}

@@ -18,7 +18,7 @@ use Rattle.bulletin.specs.Search.{fromFirst, linesAfter, afterFirst, closes}
 use Rattle.bulletin.specs.Segments.{Segment, fromLine3, firstLines, segmentsFrom, segmentsOf, most, oneOrMore}
 use Rattle.bulletin.proofs.Saying.{by-then, ok-one}
 use Rattle.making.proofs.Made.{some-same}
-use Rattle.sending.specs.Edited.{edited}
+use Rattle.forms.specs.Edited.{edited}
 use Rattle.rereading.specs.Demand.{blockText}
 use Rattle.rereading.proofs.WholeLines.{joined-append, No, pass, pass-all, stop, Sought, missing, found, seek}
 use Rattle.rereading.proofs.Inert.{opens-inert}

@@ -27,13 +27,13 @@ use Rattle.layout.specs.Layout.{bookOf}
 use Rattle.layout.specs.Sound.{isIssue, Sound}
 use Rattle.layout.specs.Tests.{isSound}
 use Rattle.layout.proofs.SoundBack.{sound-book}
-use Rattle.sending.specs.Edited.{edited, writtenForms}
+use Rattle.forms.specs.Edited.{edited, writtenForms}
 use Rattle.sending.specs.Send.{readUnder, belongs, editedRule}
 use Rattle.rereading.specs.Demand.{ReadsTo, EditedReads, WrittenReads, Agrees, EditedText}
 use Rattle.rereading.specs.Demand.{EditedAnswer, other-length, unsound, unreadable, stranger, no-room, written-out}
 use Rattle.rereading.proofs.WrittenBlock.{all-written}
-use Rattle.sending.specs.Forms.{formsRoom}
-use Rattle.sending.proofs.Forming.{forms-most}
+use Rattle.forms.specs.Forms.{formsRoom}
+use Rattle.forms.proofs.Forming.{forms-most}
 use Rattle.rereading.proofs.Ordered.{ordered-most}
 use Rattle.rereading.proofs.ReadsEdited.{edited-reads, read-ordered}
 

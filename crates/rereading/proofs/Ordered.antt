@@ -8,7 +8,7 @@ use lib.Seq.{drop-drop}
 use Rattle.lines.specs.Spans.{part}
 use Rattle.codes.specs.Written.{inOrder}
 use Rattle.bulletin.specs.Segments.{Segment}
-use Rattle.sending.specs.Edited.{editedFrom}
+use Rattle.forms.specs.Edited.{editedFrom}
 use Rattle.rereading.specs.Demand.{blockText}
 
 -- from a place on: each block starts where the one before it has ended, or behind

@@ -28,7 +28,7 @@ use Rattle.bulletin.specs.Segments.{Segment, segmentsOf}
 use Rattle.bulletin.specs.Bulletin.{Bulletin, textMost, isLength, line1, line2, issued, readBulletin}
 use Rattle.bulletin.proofs.Saying.{by-then, ok-one}
 use Rattle.making.proofs.Sounding.{made-fine}
-use Rattle.sending.specs.Edited.{edited, writtenForms}
+use Rattle.forms.specs.Edited.{edited, writtenForms}
 use Rattle.rereading.specs.Demand.{blockText, InWrittenForm, ReadsTo, EditedReads}
 use Rattle.rereading.proofs.WholeLines.{joined-pieces, pieces-joined, whole-long}
 use Rattle.rereading.proofs.Fair.{Fair, wholes, check-fair, fair-check}

@@ -17,7 +17,7 @@ use Rattle.codes.specs.Written.{inOrder}
 use Rattle.reading.specs.Placed.{placedAt}
 use Rattle.bulletin.specs.Search.{fromFirst}
 use Rattle.bulletin.specs.Segments.{Segment, pastPurge, opened, segmentsFrom}
-use Rattle.sending.specs.Edited.{editedFrom}
+use Rattle.forms.specs.Edited.{editedFrom}
 use Rattle.rereading.specs.Demand.{blockText}
 use Rattle.rereading.proofs.WholeLines.{joined-append, Whole, No, pass, pass-to, pass-all, stop}
 use Rattle.rereading.proofs.Inert.{InertLine}

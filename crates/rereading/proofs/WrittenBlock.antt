@@ -34,7 +34,7 @@ use Rattle.roundtrip.proofs.Fit.{FitLine, short-spans, rendered-fit}
 use Rattle.roundtrip.proofs.RoundTrip.{written-opens}
 use Rattle.blocks.specs.Block.{flat}
 use Rattle.blocks.specs.Content.{isContent}
-use Rattle.sending.specs.Edited.{writtenForms}
+use Rattle.forms.specs.Edited.{writtenForms}
 use Rattle.rereading.proofs.WholeLines.{Whole, pieces-joined, joined-append}
 use Rattle.rereading.proofs.Inert.{InertLine, said-front, front-long}
 use Rattle.rereading.proofs.OldBlock.{pastIn, past-here, past-later}

@@ -21,7 +21,7 @@ use Rattle.steps.specs.Book.{Book, newBook}
 use Rattle.layout.specs.Layout.{bytesOf, bookOf}
 use Rattle.layout.specs.Tests.{isSound}
 use Rattle.making.specs.Make.{makeRule}
-use Rattle.sending.specs.Edited.{edited, writtenForms}
+use Rattle.forms.specs.Edited.{edited, writtenForms}
 use Rattle.sending.specs.Send.{belongs}
 
 -- ---- reading what was written out

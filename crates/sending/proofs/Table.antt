@@ -20,7 +20,7 @@ use Rattle.bulletin.specs.Mnd.{stormIn}
 use Rattle.reading.specs.Placed.{placedAt}
 use Rattle.bulletin.specs.Segments.{pastPurge, segmentsFrom, firstLines, segmentsOf}
 use Rattle.bulletin.specs.Bulletin.{isLength, readBulletin}
-use Rattle.sending.specs.Edited.{editedFrom, writtenForms}
+use Rattle.forms.specs.Edited.{editedFrom, writtenForms}
 use Rattle.sending.specs.Examples.{allEdited, editedTable}
 
 pub edited-examples : T (allEdited editedTable)

@@ -38,13 +38,13 @@ use Rattle.blocks.specs.Block.{bookLength, numberAt}
 use Rattle.layout.specs.Layout.{bookOf}
 use Rattle.layout.specs.Tests.{isSound}
 use Rattle.layout.proofs.Said.{segments-length}
-use Rattle.sending.specs.Edited.{edited, writtenForms}
+use Rattle.forms.specs.Edited.{edited, writtenForms}
+use Rattle.forms.specs.Forms.{SoundBook, RoomFor, Laid, sumOf, cutInto, keptLength, withForms, filledIn, Cuttable}
+use Rattle.forms.specs.declared.Sizes.{Sizes}
+use Rattle.forms.proofs.Forming.{forms-many}
+use Rattle.forms.proofs.Keeping.{forms-edited, forms-length, cut-in-order, sum-lengths}
 use Rattle.sending.specs.Send.{readUnder, belongs, editedRule, WritesEdited}
-use Rattle.sending.specs.Forms.{RoomFor, Laid, sumOf, cutInto, keptLength, withForms, filledIn, Cuttable}
-use Rattle.sending.specs.Under.{SoundBook, IssueOn, Belonging}
-use Rattle.sending.specs.declared.Sizes.{Sizes}
-use Rattle.sending.proofs.Forming.{forms-many}
-use Rattle.sending.proofs.Keeping.{forms-edited, forms-length, cut-in-order, sum-lengths}
+use Rattle.sending.specs.Under.{IssueOn, Belonging}
 
 -- room for three forms, and for eight
 pub room-few : (n : ℕ) (forms : List ℕ) → n ≤ 3 → length forms ≡ 3648 → RoomFor n forms

@@ -10,7 +10,7 @@ use Rattle.lines.specs.Bytes.{bytes}
 use Rattle.bulletin.specs.Segments.{Segment}
 use Rattle.bulletin.specs.Bulletin.{readBulletin}
 use Rattle.blocks.specs.Block.{sameList}
-use Rattle.sending.specs.Edited.{edited, writtenForms}
+use Rattle.forms.specs.Edited.{edited, writtenForms}
 
 -- below the heading of two lines: what stands there, what is written out, and how many bytes the whole is
 pub record EditedRow : Type 0 where

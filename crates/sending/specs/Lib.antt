@@ -1,5 +1,3 @@
-pub mod Edited
 pub mod Send
 pub mod Examples
-pub mod Forms
 pub mod Under

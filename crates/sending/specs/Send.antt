@@ -17,7 +17,7 @@ use Rattle.blocks.specs.Block.{bookLength}
 use Rattle.steps.specs.Book.{Book}
 use Rattle.layout.specs.Layout.{bookOf}
 use Rattle.layout.specs.Tests.{isSound}
-use Rattle.sending.specs.Edited.{edited, writtenForms}
+use Rattle.forms.specs.Edited.{edited, writtenForms}
 
 -- "The text is read afresh under the year and month of the book's issue minute": a sound book's has both (`sound-dated`).
 abbrev pub readUnder : List ℕ → Option Date → Answer Bulletin

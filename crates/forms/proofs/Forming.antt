@@ -33,9 +33,8 @@ use Rattle.layout.specs.Layout.{bookOf}
 use Rattle.layout.proofs.Parts.{sound-parts}
 use Rattle.layout.proofs.Said.{segment-of, segments-length}
 use Rattle.making.proofs.Writing.{SegmentBlock, segment-block, rule-block, write-few}
-use Rattle.sending.specs.Edited.{writtenForms}
-use Rattle.sending.specs.Forms.{RoomFor, Formed, Laid}
-use Rattle.sending.specs.Under.{SoundBook}
+use Rattle.forms.specs.Edited.{writtenForms}
+use Rattle.forms.specs.Forms.{SoundBook, RoomFor, Formed, Laid}
 
 -- ---- one form
 module _ (l : List ℕ) (b : SoundBook l) (i : ℕ) (low : i < getD l 4 0) where

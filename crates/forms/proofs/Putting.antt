@@ -16,8 +16,8 @@ use Rattle.writing.specs.Write.{outputOf}
 use Rattle.bulletin.specs.Seen.{Sized}
 use Rattle.bulletin.specs.declared.Segment.{Segment}
 use Rattle.bulletin.specs.declared.Segments.{Segments}
-use Rattle.sending.specs.Forms.{cutInto, sumOf, withForms, filledIn, Cuttable}
-use Rattle.sending.proofs.Keeping.{part-rest, next-held, none-held}
+use Rattle.forms.specs.Forms.{cutInto, sumOf, withForms, filledIn, Cuttable}
+use Rattle.forms.proofs.Keeping.{part-rest, next-held, none-held}
 
 module _ (text : List ℕ) (held : List Segment) (count : ℕ) (forms each out₀ : List ℕ) where
   abbrev pub whole : List ℕ

@@ -1,8 +1,8 @@
 use Prim.Native.Nat.{_-_}
-use Rattle.sending.proofs.Forming.{Forming, forming-start, forming-same, forming-low, forming-total, forming-room, forming-on, forming-done}
+use Rattle.forms.proofs.Forming.{Forming, forming-start, forming-same, forming-low, forming-total, forming-room, forming-on, forming-done}
 use borrow.Author.Needs.{needs}
-use Rattle.sending.proofs.write_forms.Statement.{statement}
-use Rattle.sending.proofs.write_forms.Tie as tie
+use Rattle.forms.proofs.write_forms.Statement.{statement}
+use Rattle.forms.proofs.write_forms.Tie as tie
 
 abbrev Inv-loop : tie.InvT-loop
 Inv-loop book n forms₀ each₀ total₀ i₀ forms each total i = Forming book forms₀ n each total i forms

@@ -17,8 +17,8 @@ use Rattle.bulletin.specs.Segments as rule
 use Rattle.bulletin.specs.Seen.{seen, segmentsHeld, Sized}
 use Rattle.bulletin.specs.declared.Segment.{Segment}
 use Rattle.bulletin.specs.declared.Segments.{Segments}
-use Rattle.sending.specs.Edited.{editedFrom}
-use Rattle.sending.specs.Forms.{cutInto, sumOf, keptLength, withForms}
+use Rattle.forms.specs.Edited.{editedFrom}
+use Rattle.forms.specs.Forms.{cutInto, sumOf, keptLength, withForms}
 
 -- ---- the text behind its last block
 pub part-rest : (text : List ℕ) (at : ℕ) → part text at (length text) ≡ drop at text

@@ -1,8 +1,8 @@
-use Rattle.sending.proofs.Forming.{form-block, form-fits, form-few, form-written, form-refused}
+use Rattle.forms.proofs.Forming.{form-block, form-fits, form-few, form-written, form-refused}
 use borrow.Author.Needs.{needs}
 use borrow.Author.Needs.{needs}
-use Rattle.sending.proofs.write_form.Statement.{statement}
-use Rattle.sending.proofs.write_form.Tie as tie
+use Rattle.forms.proofs.write_form.Statement.{statement}
+use Rattle.forms.proofs.write_form.Tie as tie
 
 add-load : tie.Need-add-load
 add-load c = search (form-fits, needs)

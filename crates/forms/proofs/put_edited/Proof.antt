@@ -1,9 +1,9 @@
 use Prim.Native.Nat.{_-_}
-use Rattle.sending.proofs.Putting.{Putting, putting-start, putting-fits, putting-kept, putting-block, putting-on}
-use Rattle.sending.proofs.Putting.{putting-rest, putting-done, putting-same}
+use Rattle.forms.proofs.Putting.{Putting, putting-start, putting-fits, putting-kept, putting-block, putting-on}
+use Rattle.forms.proofs.Putting.{putting-rest, putting-done, putting-same}
 use borrow.Author.Needs.{needs}
-use Rattle.sending.proofs.put_edited.Statement.{statement}
-use Rattle.sending.proofs.put_edited.Tie as tie
+use Rattle.forms.proofs.put_edited.Statement.{statement}
+use Rattle.forms.proofs.put_edited.Tie as tie
 
 abbrev Inv-loop : tie.InvT-loop
 Inv-loop text forms out₀ held count each pos₀ at₀ form₀ i₀ out pos at form i = Putting text held count forms each out₀ i pos at form out

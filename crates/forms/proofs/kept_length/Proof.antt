@@ -1,8 +1,8 @@
 use Prim.Native.Nat.{_-_}
-use Rattle.sending.proofs.Keeping.{Counting, counting-start, counting-fits, counting-on, counting-end, counting-most, counting-done}
+use Rattle.forms.proofs.Keeping.{Counting, counting-start, counting-fits, counting-on, counting-end, counting-most, counting-done}
 use borrow.Author.Needs.{needs}
-use Rattle.sending.proofs.kept_length.Statement.{statement}
-use Rattle.sending.proofs.kept_length.Tie as tie
+use Rattle.forms.proofs.kept_length.Statement.{statement}
+use Rattle.forms.proofs.kept_length.Tie as tie
 
 abbrev Inv-loop : tie.InvT-loop
 Inv-loop text held count kept₀ at₀ i₀ kept at i = Counting text held count i at kept

@@ -1,6 +1,7 @@
 -- Serves the code: the written forms of a book's segments, one behind the other, and the text with them in the place of its blocks.
 use Prim.Native.Nat.{ℕ, suc, _+_, _*_, _≤_}
 use mathlib.Core.Path.{_≡_}
+use mathlib.Core.Bool.{true}
 use mathlib.Core.List.{List, [], _∷_, _++_, map}
 use lib.ListN.{length, take, drop}
 use Rattle.refusal.specs.Answer.{ok}
@@ -11,11 +12,18 @@ use Rattle.writing.specs.Pen.{writtenBlockMost}
 use Rattle.bulletin.specs.Seen.{segmentsHeld, Sized}
 use Rattle.bulletin.specs.declared.Segment.{Segment}
 use Rattle.bulletin.specs.declared.Segments.{Segments}
-use Rattle.blocks.specs.Block.{blockOf}
+use Rattle.blocks.specs.Block.{blockOf, bookLength, Bytes}
 use Rattle.blocks.specs.Content.{contentOf}
 use Rattle.layout.specs.Layout.{bookOf}
-use Rattle.sending.specs.Edited.{writtenForms}
-use Rattle.sending.specs.declared.Sizes.{Sizes}
+use Rattle.layout.specs.Tests.{isSound}
+use Rattle.forms.specs.Edited.{writtenForms}
+use Rattle.forms.specs.declared.Sizes.{Sizes}
+
+-- bytes that are a sound book
+pub record SoundBook (l : List ℕ) : Type 0 where
+  pub long : length l ≡ bookLength
+  pub sound : isSound l ≡ true
+  pub bytes : Bytes l
 
 -- room for eight forms
 abbrev pub formsRoom : ℕ

@@ -1,9 +1,9 @@
 use Prim.Native.Nat.{_-_}
 use Rattle.laws.proofs.Stores.{Copied, copied-start, copied-on}
-use Rattle.sending.proofs.Putting.{put-stored}
+use Rattle.forms.proofs.Putting.{put-stored}
 use borrow.Author.Needs.{needs}
-use Rattle.sending.proofs.put.Statement.{statement}
-use Rattle.sending.proofs.put.Tie as tie
+use Rattle.forms.proofs.put.Statement.{statement}
+use Rattle.forms.proofs.put.Tie as tie
 
 abbrev Inv-loop : tie.InvT-loop
 Inv-loop out₀ pos bytes n i₀ out i = Copied out₀ out pos bytes n i
