@@ -25,24 +25,16 @@ use Rattle.heading.specs.declared.Storm.{Storm}
 use Rattle.heading.specs.declared.Storm.the-variants as named
 use Rattle.heading.specs.declared.Named.{Named}
 use Rattle.heading.specs.declared.Named.the-variants as naming
-use Rattle.bulletin.specs.Search.{fromFirst, upToFirst, afterFirst, closes}
-use Rattle.bulletin.specs.Searching.{officeOrClose, linesOn, foundLines, Inside, nextIn}
+use Rattle.segments.specs.Search.{fromFirst, upToFirst, closes}
+use Rattle.segments.specs.Searching.{officeOrClose, linesOn, foundLines, Inside}
 use Rattle.bulletin.specs.Mnd.{stormSaid, officeStorm}
-use Rattle.bulletin.specs.Segments.{fromLine3}
+use Rattle.bulletin.specs.Starts.{fromLine3}
 use Rattle.bulletin.specs.Front.{paperStormed, paperStart}
-use Rattle.bulletin.specs.declared.Found.{Found}
-use Rattle.bulletin.specs.declared.Found.the-variants as found
+use Rattle.segments.specs.declared.Found.{Found}
+use Rattle.segments.specs.declared.Found.the-variants as found
 use Rattle.bulletin.specs.declared.Stormed.the-variants as stormed
 use Rattle.bulletin.specs.declared.Start.the-variants as start
-use Rattle.bulletin.proofs.Seeking.{next-is, body-of}
-
--- ---- the lines after the first that is sought
-module _ (p : List ℕ → Bool) (s : List ℕ) (from : ℕ) (f : Found) (ef : foundLines s f ≡ fromFirst p (linesOn s from)) where
-  pub after-none : f ≡ found.Nothing → linesOn s (length s) ≡ afterFirst p (linesOn s from)
-  after-none q = lines-last s (length s) (omega arith) ∙ rw (← ef, q)
-
-  pub after-at : Inside s from f → (a : ℕ) → f ≡ found.At a → (n : ℕ) → n ≡ nextIn a (spanAt s a) → linesOn s n ≡ afterFirst p (linesOn s from)
-  after-at i a q n e = rw (e, next-is s a, ← ef, q, lines-step s a ((rw q at i) .1))
+use Rattle.segments.proofs.Seeking.{body-of}
 
 -- ---- the office line is the first line that is one or closes the block, if it does not close it
 firstStorm : List Line → Answer (Option StormName)

@@ -1,8 +1,3 @@
-pub mod Seeking
-pub mod Opening
-pub mod Purges
-pub mod Keeping
-pub mod Stepping
 pub mod Fronts
 pub mod Tops
 pub mod Reports

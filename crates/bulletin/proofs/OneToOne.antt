@@ -7,12 +7,12 @@ use Rattle.laws.proofs.One.{Same}
 use Rattle.refusal.specs.Answer.{Answer}
 use Rattle.refusal.proofs.OneToOne.{refusal-one}
 use Rattle.heading.proofs.OneToOne.{heading-one, storm-one}
-use Rattle.bulletin.specs.Seen.{segmentsHeld}
+use Rattle.segments.specs.Seen.{segmentsHeld}
 use Rattle.bulletin.specs.Report.{reportOf, readingOf, Reads}
 use Rattle.bulletin.specs.Kept.{KeepsPlaces}
 use Rattle.bulletin.specs.View.{paperViewed}
-use Rattle.bulletin.specs.declared.Segment.{Segment}
-use Rattle.bulletin.specs.declared.Segments.{Segments}
+use Rattle.segments.specs.declared.Segment.{Segment}
+use Rattle.segments.specs.declared.Segments.{Segments}
 use Rattle.bulletin.specs.declared.Head.{Head}
 use Rattle.bulletin.specs.declared.Reading.{Reading}
 use Rattle.bulletin.specs.declared.Reading.the-variants.{Accepted, Refused}

@@ -15,23 +15,24 @@ use Rattle.lines.specs.Lines.{Line, blank}
 use Rattle.heading.specs.Paper.{paperHeading, paperStorm}
 use Rattle.heading.specs.Storm.{isOffice, StormName}
 use Rattle.heading.specs.declared.Storm.{Storm}
-use Rattle.bulletin.specs.Search.{fromFirst, upToFirst, afterFirst, closes}
-use Rattle.bulletin.specs.Searching.{linesOn}
+use Rattle.segments.specs.Search.{fromFirst, upToFirst, afterFirst, closes}
+use Rattle.segments.specs.Searching.{linesOn}
 use Rattle.bulletin.specs.Mnd.{officeStorm, stormIn}
-use Rattle.bulletin.specs.Segments as segments
-use Rattle.bulletin.specs.Segments.{fromLine3, firstLines, segmentsFrom, most, segmentsOf}
+use Rattle.segments.specs.Segments as segments
+use Rattle.segments.specs.Segments.{segmentsFrom, most}
+use Rattle.bulletin.specs.Starts.{fromLine3, firstLines, oneOrMore, segmentsOf}
 use Rattle.bulletin.specs.Bulletin as rule
 use Rattle.bulletin.specs.Bulletin.{readBulletin}
-use Rattle.bulletin.specs.Seen.{unread, segmentsFor, segmentsHeld, Sized}
-use Rattle.bulletin.specs.Listing.{seenOf, seenFrom, listedBy, paperListed}
-use Rattle.bulletin.specs.KeptBy.{keptFrom}
+use Rattle.segments.specs.Seen.{unread, segmentsFor, segmentsHeld, Sized}
+use Rattle.segments.specs.Listing.{seenOf, seenFrom, listedBy, paperListed}
+use Rattle.segments.specs.KeptBy.{keptFrom}
 use Rattle.bulletin.specs.Report.{Report, reported, reportOf, paperBulletin, segmentsReported, Reads}
 use Rattle.bulletin.specs.Below.{someSeen, listedOf, headOf, belowTop, belowOf, refusedFor, Answers}
 use Rattle.bulletin.specs.Front.{paperStormed, paperStart, textChecked, Above, topOf, paperTopped}
-use Rattle.bulletin.specs.declared.Segment.{Segment}
-use Rattle.bulletin.specs.declared.Ending.{Ending}
-use Rattle.bulletin.specs.declared.Ending.the-variants as ending
-use Rattle.bulletin.specs.declared.Listed.{Listed}
+use Rattle.segments.specs.declared.Segment.{Segment}
+use Rattle.segments.specs.declared.Ending.{Ending}
+use Rattle.segments.specs.declared.Ending.the-variants as ending
+use Rattle.segments.specs.declared.Listed.{Listed}
 use Rattle.bulletin.specs.declared.Stormed.{Stormed}
 use Rattle.bulletin.specs.declared.Stormed.the-variants as stormed
 use Rattle.bulletin.specs.declared.Start.{Start}
@@ -42,7 +43,7 @@ use Rattle.bulletin.specs.declared.Topped.the-variants as topped
 use Rattle.bulletin.specs.declared.Head.{Head}
 use Rattle.bulletin.specs.declared.Reading.the-variants as reading
 use Rattle.bulletin.specs.declared.Bulletin.{Bulletin}
-use Rattle.bulletin.proofs.Stepping.{unread-sized}
+use Rattle.segments.proofs.Stepping.{unread-sized}
 
 -- ---- a refusal, with no segment
 pub refused-is : (held : List Segment) (r : Refusal) → held ≡ unread → record { reading = reading.Refused r; segments = record { held = held; count = 0 } } ≡ refusedFor r
@@ -129,7 +130,7 @@ then-then (no number place) f g = refl
 abbrev rest : List ℕ → Above → Answer rule.Bulletin
 rest s a =
     andThen (officeStorm (fromFirst isOffice (upToFirst closes (afterFirst blank (a .below))))) λ storm.
-    andThen (andThen (fromLine3 (afterFirst closes (afterFirst blank (a .below))) (length s) (a .below)) (λ ls. andThen (segmentsFrom most s (a .issue) ls) (segments.oneOrMore (length s)))) λ gs.
+    andThen (andThen (fromLine3 (afterFirst closes (afterFirst blank (a .below))) (length s) (a .below)) (λ ls. andThen (segmentsFrom most s (a .issue) ls) (oneOrMore (length s)))) λ gs.
     ok (record { heading = a .heading; identifier = a .identifier; issue = a .issue; storm = storm; segments = gs })
 
 then-ok : {A B : Type 0} (x : A) (f : A → Answer B) → andThen (ok x) f ≡ f x
@@ -145,20 +146,20 @@ module _ (stop : ℕ) (t : Top) where
   abbrev told : Option StormName → List segments.Segment → Answer rule.Bulletin
   told storm gs = ok (record { heading = paperHeading (t .heading); identifier = t .identifier; issue = t .issue; storm = storm; segments = gs })
 
-  listed-seen : (storm : Option StormName) (z : Answer (List segments.Segment)) → reported (andThen (andThen z (segments.oneOrMore stop)) (told storm)) ≡ andThen (seenOf z) (someSeen stop (belowTop t storm))
+  listed-seen : (storm : Option StormName) (z : Answer (List segments.Segment)) → reported (andThen (andThen z (oneOrMore stop)) (told storm)) ≡ andThen (seenOf z) (someSeen stop (belowTop t storm))
   unfolding andThen
   listed-seen storm (ok []) = refl
   listed-seen storm (ok (x ∷ xs)) = refl
   listed-seen storm (no number place) = refl
 
   placed-seen : (f : List Line → Answer (List segments.Segment)) (storm : Option StormName) (y : Answer (List Line))
-      → reported (andThen (andThen y (λ ls. andThen (f ls) (segments.oneOrMore stop))) (told storm)) ≡ andThen y (λ ls. andThen (seenOf (f ls)) (someSeen stop (belowTop t storm)))
+      → reported (andThen (andThen y (λ ls. andThen (f ls) (oneOrMore stop))) (told storm)) ≡ andThen y (λ ls. andThen (seenOf (f ls)) (someSeen stop (belowTop t storm)))
   unfolding andThen
   placed-seen f storm (ok ls) = listed-seen storm (f ls)
   placed-seen f storm (no number place) = refl
 
   storm-seen : (f : List Line → Answer (List segments.Segment)) (y : Answer (List Line)) (x : Answer (Option StormName))
-      → reported (andThen x (λ storm. andThen (andThen y (λ ls. andThen (f ls) (segments.oneOrMore stop))) (told storm)))
+      → reported (andThen x (λ storm. andThen (andThen y (λ ls. andThen (f ls) (oneOrMore stop))) (told storm)))
       ≡ andThen x (λ storm. andThen y (λ ls. andThen (seenOf (f ls)) (someSeen stop (belowTop t storm))))
   unfolding andThen
   storm-seen f y (ok storm) = placed-seen f storm y

@@ -22,20 +22,22 @@ use Rattle.codes.specs.Places.{capacity}
 use Rattle.codes.specs.Block.{Content, Read, block, wrongAt, readBlock, twiceAt, dated, contentIn, contentAt}
 use Rattle.reading.specs.Placed.{Placed, placedAt}
 use Rattle.reading.proofs.Placing.{placed-parts}
-use Rattle.bulletin.specs.Search.{fromFirst}
-use Rattle.bulletin.specs.Segments.{Segment, runsTo, pastPurge, opened, ninth, segmentsFrom, firstLines, most, oneOrMore, segmentsOf}
+use Rattle.segments.specs.Search.{fromFirst}
+use Rattle.segments.specs.Segments.{Segment, runsTo, pastPurge, opened, ninth, segmentsFrom, most}
+use Rattle.bulletin.specs.Starts.{firstLines, oneOrMore, segmentsOf}
 use Rattle.bulletin.specs.Bulletin as rule
 use Rattle.bulletin.specs.Bulletin.{readBulletin}
-use Rattle.bulletin.specs.Seen.{seen, segmentsHeld, Sized}
+use Rattle.segments.specs.Seen.{seen, segmentsHeld, Sized}
 use Rattle.bulletin.specs.Report.{reported, reportOf, paperBulletin}
-use Rattle.bulletin.specs.Kept.{keepEach, placesOf, keptPlaces, KeepsPlaces}
-use Rattle.bulletin.specs.KeptBy.{placesSaid, placesAt, keptFrom, placesFrom, handedOn}
+use Rattle.segments.specs.KeptAt.{keepEach}
+use Rattle.bulletin.specs.Kept.{placesOf, keptPlaces, KeepsPlaces}
+use Rattle.segments.specs.KeptBy.{placesSaid, placesAt, keptFrom, placesFrom, handedOn}
 use Rattle.bulletin.specs.Below.{Answers}
-use Rattle.bulletin.specs.declared.Segment as declared
+use Rattle.segments.specs.declared.Segment as declared
 use Rattle.bulletin.specs.declared.Head.{Head}
 use Rattle.bulletin.specs.declared.Reading.the-variants as reading
 use Rattle.bulletin.specs.declared.Bulletin.{Bulletin}
-use Rattle.bulletin.proofs.Keeping.{kept-part, kept-same}
+use Rattle.segments.proofs.Keeping.{kept-part, kept-same}
 use Rattle.bulletin.proofs.Reports.{answers-reads}
 
 -- an answer that comes after another is accepted only after that one

@@ -29,14 +29,14 @@ use Rattle.heading.specs.Paper.{paperHeaded, paperHeading}
 use Rattle.heading.specs.declared.Heading.{Heading}
 use Rattle.heading.specs.declared.Headed.{Headed}
 use Rattle.heading.specs.declared.Headed.the-variants as headed
-use Rattle.bulletin.specs.Search.{linesAfter}
-use Rattle.bulletin.specs.Searching.{linesOn}
+use Rattle.segments.specs.Search.{linesAfter}
+use Rattle.segments.specs.Searching.{linesOn}
 use Rattle.bulletin.specs.Bulletin as rule
 use Rattle.bulletin.specs.Bulletin.{isLength, line1, line2}
 use Rattle.bulletin.specs.Front.{textChecked, topOf, paperTopped}
 use Rattle.bulletin.specs.declared.Topped.{Topped}
 use Rattle.bulletin.specs.declared.Topped.the-variants as topped
-use Rattle.bulletin.proofs.Seeking.{body-of}
+use Rattle.segments.proofs.Seeking.{body-of}
 
 -- ---- 1, 5, 2
 module _ (s : List ℕ) (year month : ℕ) where

@@ -12,10 +12,10 @@ use Rattle.refusal.specs.declared.Refusal.{Refusal}
 use Rattle.refusal.specs.declared.Verdict.the-variants as verdict
 use Rattle.lines.specs.Spans.{part}
 use Rattle.bulletin.specs.Bulletin.{readBulletin}
-use Rattle.bulletin.specs.Seen.{segmentsHeld, Sized}
+use Rattle.segments.specs.Seen.{segmentsHeld, Sized}
 use Rattle.bulletin.specs.Report.{reported, paperBulletin, Reads}
 use Rattle.bulletin.specs.View.{numbered, viewOf, paperViewed, accepted, partViewed}
-use Rattle.bulletin.specs.declared.Segment.{Segment}
+use Rattle.segments.specs.declared.Segment.{Segment}
 use Rattle.bulletin.specs.declared.Head.{Head}
 use Rattle.bulletin.specs.declared.Reading.the-variants as reading
 use Rattle.bulletin.specs.declared.Bulletin.{Bulletin}

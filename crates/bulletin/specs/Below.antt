@@ -11,15 +11,16 @@ use Rattle.lines.specs.Lines.{blank}
 use Rattle.heading.specs.Storm.{isOffice, StormName}
 use Rattle.heading.specs.Paper.{paperHeading}
 use Rattle.heading.specs.declared.Storm.{Storm}
-use Rattle.bulletin.specs.Search.{fromFirst, upToFirst, afterFirst, closes}
-use Rattle.bulletin.specs.Searching.{linesOn}
+use Rattle.segments.specs.Search.{fromFirst, upToFirst, afterFirst, closes}
+use Rattle.segments.specs.Searching.{linesOn}
 use Rattle.bulletin.specs.Mnd.{officeStorm}
-use Rattle.bulletin.specs.Segments.{fromLine3, segmentsFrom, most}
-use Rattle.bulletin.specs.Seen.{segmentsFor, segmentsHeld, Sized}
-use Rattle.bulletin.specs.Listing.{seenOf, seenFrom}
-use Rattle.bulletin.specs.KeptBy.{keptFrom}
+use Rattle.segments.specs.Segments.{segmentsFrom, most}
+use Rattle.bulletin.specs.Starts.{fromLine3}
+use Rattle.segments.specs.Seen.{segmentsFor, segmentsHeld, Sized}
+use Rattle.segments.specs.Listing.{seenOf, seenFrom}
+use Rattle.segments.specs.KeptBy.{keptFrom}
 use Rattle.bulletin.specs.Report.{Report, reportOf, paperBulletin, segmentsReported}
-use Rattle.bulletin.specs.declared.Segment.{Segment}
+use Rattle.segments.specs.declared.Segment.{Segment}
 use Rattle.bulletin.specs.declared.Top.{Top}
 use Rattle.bulletin.specs.declared.Head.{Head}
 use Rattle.bulletin.specs.declared.Reading.the-variants as reading

@@ -12,9 +12,10 @@ use Rattle.lines.specs.Check.{checkText}
 use Rattle.calendar.specs.Calendar.{isIssueMonth, minuteOf}
 use Rattle.heading.specs.Heading.{Heading, headingOf, isIdentifier}
 use Rattle.heading.specs.Storm.{StormName}
-use Rattle.bulletin.specs.Search.{linesAfter}
+use Rattle.segments.specs.Search.{linesAfter}
 use Rattle.bulletin.specs.Mnd.{stormIn}
-use Rattle.bulletin.specs.Segments.{Segment, segmentsOf}
+use Rattle.segments.specs.Segments.{Segment}
+use Rattle.bulletin.specs.Starts.{segmentsOf}
 
 -- "A text is 1 to 16,384 bytes."
 abbrev pub textMost : ℕ

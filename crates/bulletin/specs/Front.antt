@@ -11,8 +11,8 @@ use mathlib.Core.List.{List}
 use mathlib.Core.Option.{Option}
 use Rattle.refusal.specs.Answer.{Answer, ok, must, andThen, paperRefusal}
 use Rattle.lines.specs.Lines.{Line, linesOf}
-use Rattle.bulletin.specs.Search.{linesAfter}
-use Rattle.bulletin.specs.Searching.{linesOn}
+use Rattle.segments.specs.Search.{linesAfter}
+use Rattle.segments.specs.Searching.{linesOn}
 use Rattle.bulletin.specs.Bulletin.{isLength, line1, line2, issued}
 use Rattle.bulletin.specs.declared.Topped.{Topped}
 use Rattle.bulletin.specs.declared.Topped.the-variants as topped

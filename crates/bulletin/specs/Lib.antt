@@ -1,13 +1,8 @@
-pub mod Search
 pub mod Mnd
-pub mod Segments
+pub mod Starts
 pub mod Bulletin
-pub mod Seen
 pub mod Report
 pub mod View
 pub mod Kept
-pub mod Searching
-pub mod Listing
-pub mod KeptBy
 pub mod Front
 pub mod Below

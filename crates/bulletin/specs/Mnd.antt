@@ -8,7 +8,7 @@ use Rattle.refusal.specs.Answer.{Answer, ok, refused}
 use Rattle.lines.specs.Lines.{Line, blank}
 use Rattle.heading.specs.Storm as storm
 use Rattle.heading.specs.Storm.{isOffice, StormName, StormSaid, stormOf}
-use Rattle.bulletin.specs.Search.{fromFirst, upToFirst, linesAfter, afterFirst, closes}
+use Rattle.segments.specs.Search.{fromFirst, upToFirst, linesAfter, afterFirst, closes}
 
 -- "the lines after the first blank line that follows line 2"
 abbrev pub belowBlank : List Line → List Line

@@ -8,9 +8,9 @@ use Rattle.heading.specs.Heading.{Heading}
 use Rattle.heading.specs.Storm.{StormName}
 use Rattle.heading.specs.Paper.{paperHeading, paperStorm}
 use Rattle.bulletin.specs.Bulletin as rule
-use Rattle.bulletin.specs.Seen.{seen, segmentsFor, segmentsHeld}
-use Rattle.bulletin.specs.declared.Segment.{Segment}
-use Rattle.bulletin.specs.declared.Segments.{Segments}
+use Rattle.segments.specs.Seen.{seen, segmentsFor, segmentsHeld}
+use Rattle.segments.specs.declared.Segment.{Segment}
+use Rattle.segments.specs.declared.Segments.{Segments}
 use Rattle.bulletin.specs.declared.Head.{Head}
 use Rattle.bulletin.specs.declared.Reading.{Reading}
 use Rattle.bulletin.specs.declared.Reading.the-variants as reading

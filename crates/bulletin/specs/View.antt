@@ -6,7 +6,7 @@ use Rattle.refusal.specs.Answer.{Answer, ok, no, refused, andThen, paperRefusal
 use Rattle.lines.specs.Spans.{part}
 use Rattle.bulletin.specs.Bulletin.{readBulletin}
 use Rattle.bulletin.specs.Report.{Report, reported}
-use Rattle.bulletin.specs.declared.Segment.{Segment}
+use Rattle.segments.specs.declared.Segment.{Segment}
 use Rattle.bulletin.specs.declared.Viewed.{Viewed}
 use Rattle.bulletin.specs.declared.Viewed.the-variants as viewed
 

@@ -13,10 +13,10 @@ use mir.Val.{Fits}
 use Rattle.laws.proofs.Tests.{impossible}
 use Rattle.lines.specs.Spans.{part}
 use Rattle.codes.specs.Written.{inOrder}
-use Rattle.bulletin.specs.Segments as rule
-use Rattle.bulletin.specs.Seen.{seen, segmentsHeld, Sized}
-use Rattle.bulletin.specs.declared.Segment.{Segment}
-use Rattle.bulletin.specs.declared.Segments.{Segments}
+use Rattle.segments.specs.Segments as rule
+use Rattle.segments.specs.Seen.{seen, segmentsHeld, Sized}
+use Rattle.segments.specs.declared.Segment.{Segment}
+use Rattle.segments.specs.declared.Segments.{Segments}
 use Rattle.forms.specs.Edited.{editedFrom}
 use Rattle.forms.specs.Forms.{cutInto, sumOf, keptLength, withForms}
 

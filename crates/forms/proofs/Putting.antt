@@ -13,9 +13,9 @@ use Rattle.refusal.specs.Answer.{ok}
 use Rattle.lines.specs.Spans.{part}
 use Rattle.writing.specs.Pen.{Stored}
 use Rattle.writing.specs.Write.{outputOf}
-use Rattle.bulletin.specs.Seen.{Sized}
-use Rattle.bulletin.specs.declared.Segment.{Segment}
-use Rattle.bulletin.specs.declared.Segments.{Segments}
+use Rattle.segments.specs.Seen.{Sized}
+use Rattle.segments.specs.declared.Segment.{Segment}
+use Rattle.segments.specs.declared.Segments.{Segments}
 use Rattle.forms.specs.Forms.{cutInto, sumOf, withForms, filledIn, Cuttable}
 use Rattle.forms.proofs.Keeping.{part-rest, next-held, none-held}
 

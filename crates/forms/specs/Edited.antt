@@ -6,7 +6,7 @@ use Rattle.refusal.specs.Answer.{Answer, ok, andThen}
 use Rattle.lines.specs.Spans.{part}
 use Rattle.codes.specs.Block.{Content}
 use Rattle.writing.specs.Write.{writtenBlock}
-use Rattle.bulletin.specs.Segments.{Segment}
+use Rattle.segments.specs.Segments.{Segment}
 
 -- The text from a place on: its own bytes up to the next segment's block, the new block in place of the old one, and so on behind the old one's last line.
 -- Behind the last block, the text's own bytes.

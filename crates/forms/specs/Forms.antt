@@ -9,9 +9,9 @@ use Rattle.lines.specs.Spans.{part}
 use Rattle.codes.specs.Written.{inOrder}
 use Rattle.writing.specs.Write.{writtenBlock}
 use Rattle.writing.specs.Pen.{writtenBlockMost}
-use Rattle.bulletin.specs.Seen.{segmentsHeld, Sized}
-use Rattle.bulletin.specs.declared.Segment.{Segment}
-use Rattle.bulletin.specs.declared.Segments.{Segments}
+use Rattle.segments.specs.Seen.{segmentsHeld, Sized}
+use Rattle.segments.specs.declared.Segment.{Segment}
+use Rattle.segments.specs.declared.Segments.{Segments}
 use Rattle.blocks.specs.Block.{blockOf, bookLength, Bytes}
 use Rattle.blocks.specs.Content.{contentOf}
 use Rattle.layout.specs.Layout.{bookOf}

@@ -2,12 +2,12 @@
 ghost use mathlib.Core.Path.{_≡_};
 ghost use Prim.Native.Nat.{_+_, _≤_, _<_};
 ghost use lib.ListN.{length, getD};
-ghost use Rattle.bulletin.specs.Seen.{segmentsHeld, Sized};
+ghost use Rattle.segments.specs.Seen.{segmentsHeld, Sized};
 ghost use Rattle.writing.specs.Pen.{Stored, writtenBlockMost};
 ghost use Rattle.writing.specs.Write.{outputOf};
 ghost use Rattle.refusal.specs.Answer.{ok};
 ghost use Rattle.forms.specs.Forms.{SoundBook, Formed, RoomFor, Laid, keptLength, filledIn, Cuttable};
-use bulletin::Segments;
+use segments::Segments;
 use writing::Written;
 
 // The lengths of the written forms of a book's segments, and their sum.

@@ -24,9 +24,9 @@ use Rattle.calendar.proofs.Laws.{purge-low}
 use Rattle.codes.specs.Places.{capacity}
 use Rattle.codes.specs.Block as codes
 use Rattle.codes.specs.Block.{Read, counted, dated, contentIn, contentAt, readBlock, twiceAt, block, wrongAt}
-use Rattle.bulletin.specs.Seen.{segmentsHeld, Sized}
-use Rattle.bulletin.specs.declared.Segment.{Segment}
-use Rattle.bulletin.specs.declared.Segments.{Segments}
+use Rattle.segments.specs.Seen.{segmentsHeld, Sized}
+use Rattle.segments.specs.declared.Segment.{Segment}
+use Rattle.segments.specs.declared.Segments.{Segments}
 use Rattle.checks.specs.Seal.{blockLength}
 use Rattle.blocks.specs.Block.{bookLength, blockCount, blockOf, putBlock}
 use Rattle.blocks.specs.Content.{holding}

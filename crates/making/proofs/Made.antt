@@ -13,9 +13,10 @@ use Rattle.lines.specs.Lines.{Line, linesOf, blank, isEnd, opens}
 use Rattle.codes.specs.Block.{Content, contentAt}
 use Rattle.reading.specs.Placed.{placedAt}
 use Rattle.reading.proofs.Placing.{placed-parts}
-use Rattle.bulletin.specs.Search.{fromFirst, linesAfter, closes}
+use Rattle.segments.specs.Search.{fromFirst, linesAfter, closes}
 use Rattle.bulletin.specs.Mnd.{pastMnd}
-use Rattle.bulletin.specs.Segments.{Segment, runsTo, pastPurge, opened, ninth, segmentsFrom, segmentsOf, fromLine3, firstLines, most, oneOrMore}
+use Rattle.segments.specs.Segments.{Segment, runsTo, pastPurge, opened, ninth, segmentsFrom, most}
+use Rattle.bulletin.specs.Starts.{segmentsOf, fromLine3, firstLines, oneOrMore}
 use Rattle.bulletin.specs.Bulletin.{Bulletin, issued, readBulletin}
 use Rattle.bulletin.proofs.Saying.{then-back, ok-one, by-then}
 use Rattle.refusal.specs.Numbers.{wrongTime, wrongBlock}

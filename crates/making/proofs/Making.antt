@@ -17,13 +17,14 @@ use Rattle.refusal.specs.declared.Verdict.{Verdict}
 use Rattle.refusal.specs.declared.Verdict.the-variants as verdict
 use Rattle.codes.specs.Places.{capacity}
 use Rattle.codes.specs.Block.{Content, contentAt}
-use Rattle.bulletin.specs.Segments as segments
+use Rattle.segments.specs.Segments as segments
 use Rattle.bulletin.specs.Bulletin as rule
 use Rattle.bulletin.specs.Bulletin.{readBulletin}
-use Rattle.bulletin.specs.Seen.{seen, segmentsHeld, Sized}
+use Rattle.segments.specs.Seen.{seen, segmentsHeld, Sized}
 use Rattle.bulletin.specs.Report.{reported, reportOf, Reads}
-use Rattle.bulletin.specs.Kept.{keepEach, placesOf, keptPlaces, KeepsPlaces}
-use Rattle.bulletin.specs.declared.Segment.{Segment}
+use Rattle.segments.specs.KeptAt.{keepEach}
+use Rattle.bulletin.specs.Kept.{placesOf, keptPlaces, KeepsPlaces}
+use Rattle.segments.specs.declared.Segment.{Segment}
 use Rattle.bulletin.specs.declared.Head.{Head}
 use Rattle.bulletin.specs.declared.Reading.the-variants as reading
 use Rattle.bulletin.specs.declared.Bulletin.{Bulletin}

@@ -7,8 +7,8 @@ use lib.ListN.{length}
 use Rattle.laws.proofs.Tests.{by, by-order, apart, either-way}
 use Rattle.lines.specs.Lines.{Line, linesOf}
 use Rattle.lines.proofs.Ends.{nextOf, lineAt, lines-step, lines-last}
-use Rattle.bulletin.specs.Search.{fromFirst, linesAfter}
-use Rattle.bulletin.specs.Searching.{linesOn}
+use Rattle.segments.specs.Search.{fromFirst, linesAfter}
+use Rattle.segments.specs.Searching.{linesOn}
 
 -- ---- lines of a text
 module _ (text : List ℕ) where

@@ -22,7 +22,7 @@ use Rattle.roundtrip.proofs.WriteRead.{read-writable, read-again}
 use Rattle.blocks.specs.Content.{isContent}
 use Rattle.keeping.proofs.Keeping.{new-sound}
 use Rattle.layout.specs.Sound.{isIssue, Fine, Sound}
-use Rattle.bulletin.specs.Segments.{Segment}
+use Rattle.segments.specs.Segments.{Segment}
 use Rattle.bulletin.specs.Bulletin.{Bulletin, issued, readBulletin}
 use Rattle.making.specs.Make.{bookFrom}
 use Rattle.making.proofs.Made.{Stands, read-back, segmented}

@@ -6,7 +6,7 @@ use mathlib.Core.Option.{none}
 use lib.ListN.{length, take, drop, getElem?}
 use Rattle.codes.specs.Places.{capacity}
 use Rattle.codes.specs.Block.{Content}
-use Rattle.bulletin.specs.declared.Segment.{Segment}
+use Rattle.segments.specs.declared.Segment.{Segment}
 use Rattle.blocks.specs.Block.{bookLength, blockOf}
 use Rattle.blocks.specs.Content.{holding}
 use Rattle.steps.specs.Book.{newBook}

@@ -11,7 +11,7 @@ use Rattle.refusal.specs.declared.Verdict.{Verdict}
 use Rattle.codes.specs.Block.{Content}
 use Rattle.writing.specs.Write.{writtenBlock, fitting, lengthOf, outputOf, paperWritten}
 use Rattle.writing.specs.declared.Written.{Written}
-use Rattle.bulletin.specs.Segments.{Segment}
+use Rattle.segments.specs.Segments.{Segment}
 use Rattle.bulletin.specs.Bulletin.{Bulletin, readBulletin}
 use Rattle.blocks.specs.Block.{bookLength}
 use Rattle.steps.specs.Book.{Book, at, newBook}

@@ -6,14 +6,14 @@ ghost use Prim.Native.Nat.{_<_};
 ghost use lib.ListN.{length};
 ghost use Rattle.laws.specs.Lists.{All};
 ghost use Rattle.blocks.specs.Block.{bookLength};
-ghost use Rattle.bulletin.specs.Seen.{segmentsHeld, Sized};
+ghost use Rattle.segments.specs.Seen.{segmentsHeld, Sized};
 ghost use Rattle.layout.specs.Tests.{isSound};
 ghost use Rattle.making.specs.Fill.{contentsFrom, Filled, Storable, Indexed};
 ghost use Rattle.making.specs.Make.{Makes, WritesOn};
 use bulletin::Reading;
-use bulletin::Segments;
 use refusal::Refusal;
 use refusal::Verdict;
+use segments::Segments;
 use writing::Written;
 
 // Fills the blocks of a book whose blocks are all unused: block i + 1 with the content of segment i, whose places are kept from 120 * i on.

@@ -8,7 +8,7 @@ use lib.Dec.{eqb}
 use Rattle.refusal.specs.Answer.{Answer, ok, no}
 use Rattle.lines.specs.Bytes.{bytes, word, exactly}
 use Rattle.heading.specs.Storm.{basinNames, ClassName, cyclone, internal, training, disturbance, StormName}
-use Rattle.bulletin.specs.declared.Segment.{Segment}
+use Rattle.segments.specs.declared.Segment.{Segment}
 use Rattle.layout.specs.Layout.{bit}
 use Rattle.steps.specs.Calls as calls
 use Rattle.steps.specs.Calls.{Value, draft, done, number, was, changed, Edit, readPurge, readCount, readPlace, add, remove, setPurge, Work, taking, editing, Call, opening, on, commit, undo}

@@ -21,12 +21,12 @@ use Rattle.sets.specs.Held as held
 use Rattle.reading.specs.declared.Purge.{Purge}
 use Rattle.reading.specs.declared.Purge.the-variants as purge
 use Rattle.reading.specs.declared.Content.{Content}
-use Rattle.bulletin.specs.Segments as segments
+use Rattle.segments.specs.Segments as segments
 use Rattle.bulletin.specs.Bulletin as rule
 use Rattle.bulletin.specs.Bulletin.{readBulletin}
-use Rattle.bulletin.specs.Seen.{seen, segmentsHeld, Sized}
+use Rattle.segments.specs.Seen.{seen, segmentsHeld, Sized}
 use Rattle.bulletin.specs.Report.{reported, reportOf, Reads}
-use Rattle.bulletin.specs.declared.Segment.{Segment}
+use Rattle.segments.specs.declared.Segment.{Segment}
 use Rattle.bulletin.specs.declared.Head.{Head}
 use Rattle.bulletin.specs.declared.Reading.the-variants as reading
 use Rattle.bulletin.specs.declared.Bulletin.{Bulletin}

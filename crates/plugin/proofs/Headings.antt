@@ -26,7 +26,7 @@ use Rattle.heading.specs.Storm.{stormForm, namesStorm, basinOf, ClassName, clas
 use Rattle.heading.specs.Paper.{paperBasin}
 use Rattle.heading.specs.declared.Basin.{Basin}
 use Rattle.heading.specs.declared.Basin.the-variants.{Al, Sl, Ep, Cp, Wp}
-use Rattle.bulletin.specs.Search.{closes}
+use Rattle.segments.specs.Search.{closes}
 use Rattle.bulletin.specs.Mnd.{stormSaid, officeStorm, stormIn}
 use Rattle.bulletin.specs.Bulletin.{line1, line2, headed}
 use Rattle.packing.specs.Packing.{yearEnd}

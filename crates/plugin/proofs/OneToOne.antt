@@ -8,7 +8,7 @@ use Rattle.writing.specs.Write.{lengthOf, outputOf}
 use Rattle.bulletin.specs.Bulletin.{readBulletin}
 use Rattle.bulletin.specs.Report.{Report, reported}
 use Rattle.bulletin.specs.View.{viewOf}
-use Rattle.bulletin.specs.declared.Segment.{Segment}
+use Rattle.segments.specs.declared.Segment.{Segment}
 use Rattle.steps.specs.Calls.{Call}
 use Rattle.layout.specs.Rule.{onBytes}
 use Rattle.making.specs.Make.{makeRule, madeAnswer, madeBytes}

@@ -35,12 +35,12 @@ use Rattle.layout.proofs.Forth.{issue-low}
 use Rattle.codes.proofs.Sets.{set-true}
 use Rattle.keeping.proofs.Parts.{all-stands}
 use Rattle.keeping.proofs.Editing.{fine-places, fine-purge}
-use Rattle.bulletin.specs.Segments as segments
+use Rattle.segments.specs.Segments as segments
 use Rattle.bulletin.specs.Bulletin.{textMost, isLength, issued, Bulletin, readBulletin}
-use Rattle.bulletin.specs.Seen.{seen}
+use Rattle.segments.specs.Seen.{seen}
 use Rattle.bulletin.specs.Report.{Report, reported}
 use Rattle.bulletin.specs.View.{numbered, viewOf, partViewed}
-use Rattle.bulletin.specs.declared.Segment.{Segment}
+use Rattle.segments.specs.declared.Segment.{Segment}
 use Rattle.making.specs.Make.{bookFrom, makeRule, madeAnswer, orNoSegment, segmentBlock, writeOn}
 use Rattle.making.proofs.Writing.{segment-most}
 use Rattle.bulletin.proofs.Saying.{by-then}

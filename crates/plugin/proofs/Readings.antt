@@ -9,10 +9,10 @@ use Rattle.refusal.specs.declared.Refusal.{Refusal}
 use Rattle.refusal.specs.Answer.{Answer}
 use Rattle.heading.specs.Paper.{paperBbb, paperStorm}
 use Rattle.bulletin.specs.Bulletin.{readBulletin}
-use Rattle.bulletin.specs.Seen.{segmentsHeld, Sized}
+use Rattle.segments.specs.Seen.{segmentsHeld, Sized}
 use Rattle.bulletin.specs.Report.{Report, reported, reportOf, readingOf, Reads}
 use Rattle.bulletin.specs.View.{paperViewed}
-use Rattle.bulletin.specs.declared.Segment.{Segment}
+use Rattle.segments.specs.declared.Segment.{Segment}
 use Rattle.bulletin.specs.declared.Head.{Head}
 use Rattle.bulletin.specs.declared.Reading.{Reading}
 use Rattle.bulletin.specs.declared.Reading.the-variants as reading

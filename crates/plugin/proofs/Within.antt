@@ -24,9 +24,10 @@ use Rattle.codes.specs.Block.{insertCovered, Read, block, wrongAt, ended, readF
 use Rattle.codes.proofs.Turns.{read-covers, read-purge, read-wrong}
 use Rattle.codes.proofs.Twice.{twice-covers, twice-purge, twice-wrong}
 use Rattle.reading.specs.Placed.{purgePlace, placedAt}
-use Rattle.bulletin.specs.Search.{fromFirst, upToFirst, linesAfter, closes}
+use Rattle.segments.specs.Search.{fromFirst, upToFirst, linesAfter, closes}
 use Rattle.bulletin.specs.Mnd.{pastMnd}
-use Rattle.bulletin.specs.Segments.{Segment, pastPurge, runsTo, oneOrMore, opened, ninth, segmentsFrom, fromLine3, firstLines, most, segmentsOf}
+use Rattle.segments.specs.Segments.{Segment, pastPurge, runsTo, opened, ninth, segmentsFrom, most}
+use Rattle.bulletin.specs.Starts.{oneOrMore, fromLine3, firstLines, segmentsOf}
 use Rattle.packing.proofs.Kept.{reason-byte}
 
 -- ---- lines

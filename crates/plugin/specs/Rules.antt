@@ -9,9 +9,9 @@ use Rattle.codes.specs.Block.{Content}
 use Rattle.steps.specs.Book.{at}
 use Rattle.steps.specs.Calls as calls
 use Rattle.bulletin.specs.Bulletin.{Bulletin, readBulletin}
-use Rattle.bulletin.specs.Segments as segments
+use Rattle.segments.specs.Segments as segments
 use Rattle.bulletin.specs.Report.{Report}
-use Rattle.bulletin.specs.declared.Segment.{Segment}
+use Rattle.segments.specs.declared.Segment.{Segment}
 use Rattle.making.specs.Make.{orNoSegment}
 use Rattle.packing.specs.Packing.{bbbBits, stormBits, viewed, viewBits}
 

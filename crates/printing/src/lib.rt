@@ -7,7 +7,6 @@ ghost use Rattle.printing.specs.Asked.{askedOf};
 ghost use Rattle.printing.specs.Paper.{paperAsked};
 use bulletin::Head;
 use bulletin::Reading;
-use bulletin::Segment;
 use heading::Basin;
 use heading::Bbb;
 use heading::Storm;
@@ -15,6 +14,7 @@ use heading::StormId;
 use libc::STDOUT_FILENO;
 use lines::Lined;
 use refusal::Refusal;
+use segments::Segment;
 use writing::Written;
 
 // The year and month that the first line names.

@@ -8,7 +8,7 @@ use Rattle.steps.specs.Calls.{Call}
 use Rattle.layout.specs.Layout.{bytesOf}
 use Rattle.serial.specs.Bytewise.{WholeBytes}
 use Rattle.serial.proofs.Lift.{whole-bytes}
-use Rattle.bulletin.specs.Segments.{Segment}
+use Rattle.segments.specs.Segments.{Segment}
 use Rattle.bulletin.specs.Bulletin.{readBulletin}
 use Rattle.making.specs.Make.{makeRule}
 use Rattle.bulletin.proofs.Saying.{by-then, ok-one}

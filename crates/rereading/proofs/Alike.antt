@@ -11,7 +11,7 @@ use Rattle.refusal.specs.Answer.{Answer, ok}
 use Rattle.lines.specs.Lines.{bodyOf, blank, Line, linesAt}
 use Rattle.heading.specs.Storm as storm
 use Rattle.heading.specs.Storm.{isOffice, StormName, StormSaid, stormOf}
-use Rattle.bulletin.specs.Search.{fromFirst, upToFirst, afterFirst, closes}
+use Rattle.segments.specs.Search.{fromFirst, upToFirst, afterFirst, closes}
 use Rattle.bulletin.specs.Mnd.{officeStorm, stormSaid}
 use Rattle.rereading.proofs.Inert.{InertLine, inert-open}
 

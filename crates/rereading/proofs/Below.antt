@@ -14,8 +14,9 @@ use Rattle.refusal.specs.Answer.{Answer, ok, refused, andThen}
 use Rattle.lines.specs.Lines.{bodyOf, blank, opens, Line, linesAt}
 use Rattle.codes.specs.Block.{Content}
 use Rattle.codes.specs.Written.{inOrder}
-use Rattle.bulletin.specs.Search.{fromFirst, linesAfter, afterFirst, closes}
-use Rattle.bulletin.specs.Segments.{Segment, fromLine3, firstLines, segmentsFrom, segmentsOf, most, oneOrMore}
+use Rattle.segments.specs.Search.{fromFirst, linesAfter, afterFirst, closes}
+use Rattle.segments.specs.Segments.{Segment, segmentsFrom, most}
+use Rattle.bulletin.specs.Starts.{fromLine3, firstLines, segmentsOf, oneOrMore}
 use Rattle.bulletin.proofs.Saying.{by-then, ok-one}
 use Rattle.making.proofs.Made.{some-same}
 use Rattle.forms.specs.Edited.{edited}

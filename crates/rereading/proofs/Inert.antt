@@ -14,7 +14,7 @@ use Rattle.lines.specs.Lines.{bodyOf, blank, isEnd, opens, prefixForm}
 use Rattle.codes.specs.Elements.{wrong, singleForm, rangeForm, purgeForm, numbers, short, said}
 use Rattle.codes.proofs.Bounds.{exact-front, within}
 use Rattle.heading.specs.Storm.{isOffice}
-use Rattle.bulletin.specs.Search.{closes}
+use Rattle.segments.specs.Search.{closes}
 
 -- ---- how an element begins that is not wrong: with a digit, with ALL, or with a prefix
 pub data Front (s : List ℕ) : Type 0 where

@@ -20,7 +20,7 @@ use Rattle.codes.specs.Block.{Read, insertCovered, block, wrongAt, ended, readF
 use Rattle.codes.specs.Written.{inOrder}
 use Rattle.codes.proofs.Turns.{read-covers, read-purge, read-wrong}
 use Rattle.reading.specs.Placed.{purgePlace}
-use Rattle.bulletin.specs.Segments.{pastPurge}
+use Rattle.segments.specs.Segments.{pastPurge}
 use Rattle.rereading.proofs.WholeLines.{joined-pieces, Whole, pieces-joined, body-short}
 use Rattle.rereading.proofs.Inert.{Front, said-front, front-more, front-long, InertLine, front-inert}
 

@@ -7,7 +7,7 @@ use lib.ListN.{length, drop, take-append-drop, length-append}
 use lib.Seq.{drop-drop}
 use Rattle.lines.specs.Spans.{part}
 use Rattle.codes.specs.Written.{inOrder}
-use Rattle.bulletin.specs.Segments.{Segment}
+use Rattle.segments.specs.Segments.{Segment}
 use Rattle.forms.specs.Edited.{editedFrom}
 use Rattle.rereading.specs.Demand.{blockText}
 

@@ -22,9 +22,10 @@ use Rattle.blocks.specs.Content.{isContent}
 use Rattle.heading.specs.Heading.{Heading}
 use Rattle.heading.specs.Storm.{StormName}
 use Rattle.writing.specs.Write.{writtenBlock}
-use Rattle.bulletin.specs.Search.{linesAfter}
+use Rattle.segments.specs.Search.{linesAfter}
 use Rattle.bulletin.specs.Mnd.{stormIn}
-use Rattle.bulletin.specs.Segments.{Segment, segmentsOf}
+use Rattle.segments.specs.Segments.{Segment}
+use Rattle.bulletin.specs.Starts.{segmentsOf}
 use Rattle.bulletin.specs.Bulletin.{Bulletin, textMost, isLength, line1, line2, issued, readBulletin}
 use Rattle.bulletin.proofs.Saying.{by-then, ok-one}
 use Rattle.making.proofs.Sounding.{made-fine}

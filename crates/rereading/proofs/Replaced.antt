@@ -15,8 +15,8 @@ use Rattle.lines.specs.Spans.{part}
 use Rattle.codes.specs.Block.{Content}
 use Rattle.codes.specs.Written.{inOrder}
 use Rattle.reading.specs.Placed.{placedAt}
-use Rattle.bulletin.specs.Search.{fromFirst}
-use Rattle.bulletin.specs.Segments.{Segment, pastPurge, opened, segmentsFrom}
+use Rattle.segments.specs.Search.{fromFirst}
+use Rattle.segments.specs.Segments.{Segment, pastPurge, opened, segmentsFrom}
 use Rattle.forms.specs.Edited.{editedFrom}
 use Rattle.rereading.specs.Demand.{blockText}
 use Rattle.rereading.proofs.WholeLines.{joined-append, Whole, No, pass, pass-to, pass-all, stop}

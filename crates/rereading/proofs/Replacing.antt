@@ -15,8 +15,8 @@ use Rattle.codes.specs.Block.{Content}
 use Rattle.codes.specs.Written.{inOrder}
 use Rattle.reading.specs.Placed.{placedAt}
 use Rattle.reading.proofs.Placing.{placed-parts}
-use Rattle.bulletin.specs.Search.{fromFirst}
-use Rattle.bulletin.specs.Segments.{Segment, runsTo, opened, ninth, segmentsFrom}
+use Rattle.segments.specs.Search.{fromFirst}
+use Rattle.segments.specs.Segments.{Segment, runsTo, opened, ninth, segmentsFrom}
 use Rattle.bulletin.proofs.Saying.{by-then, ok-one}
 use Rattle.rereading.proofs.WholeLines.{joined-append, No, pass, pass-to, pass-all, stop, Sought, missing, found, seek}
 use Rattle.rereading.proofs.Inert.{InertLine}

@@ -15,7 +15,7 @@ use Rattle.lines.specs.Lines.{glue, pieces, lineEnd, bodyOf, linesAt}
 use Rattle.lines.specs.Check.{lastEnds}
 use Rattle.lines.proofs.Ends.{firstPiece, pieces-first}
 use Rattle.codes.specs.Written.{inOrder}
-use Rattle.bulletin.specs.Search.{fromFirst}
+use Rattle.segments.specs.Search.{fromFirst}
 
 -- ---- a text is its pieces, in order
 joined-glue : (b : ℕ) (ps : List (List ℕ)) → inOrder (glue b ps) ≡ b ∷ inOrder ps

@@ -14,7 +14,7 @@ use Rattle.calendar.specs.Calendar.{dateOf}
 use Rattle.calendar.specs.declared.Date.{Date}
 use Rattle.codes.specs.Block.{Content}
 use Rattle.writing.specs.Write.{writtenBlock}
-use Rattle.bulletin.specs.Segments.{Segment}
+use Rattle.segments.specs.Segments.{Segment}
 use Rattle.bulletin.specs.Bulletin.{Bulletin, textMost, isLength, readBulletin}
 use Rattle.blocks.specs.Block.{bookLength, blockOf}
 use Rattle.steps.specs.Book.{Book, newBook}

@@ -15,10 +15,11 @@ use Rattle.codes.specs.Places.{ascends, isSet}
 use Rattle.lines.specs.Check.{badByte, longLine, lastEnds, unended, least, textFault, checkText}
 use Rattle.heading.specs.Heading.{isHeading, headingOf, isIdentifier}
 use Rattle.heading.specs.Storm.{isOffice, namesStorm, basinOf, classOf, stormOf}
-use Rattle.bulletin.specs.Search.{fromFirst, upToFirst}
+use Rattle.segments.specs.Search.{fromFirst, upToFirst}
 use Rattle.bulletin.specs.Mnd.{stormIn}
 use Rattle.reading.specs.Placed.{placedAt}
-use Rattle.bulletin.specs.Segments.{pastPurge, segmentsFrom, firstLines, segmentsOf}
+use Rattle.segments.specs.Segments.{pastPurge, segmentsFrom}
+use Rattle.bulletin.specs.Starts.{firstLines, segmentsOf}
 use Rattle.bulletin.specs.Bulletin.{isLength, readBulletin}
 use Rattle.forms.specs.Edited.{editedFrom, writtenForms}
 use Rattle.sending.specs.Examples.{allEdited, editedTable}

@@ -26,10 +26,10 @@ use Rattle.writing.specs.declared.Written.{Written}
 use Rattle.writing.specs.declared.Written.the-variants as written
 use Rattle.bulletin.specs.Bulletin as rule
 use Rattle.bulletin.specs.Bulletin.{textMost, isLength, readBulletin}
-use Rattle.bulletin.specs.Seen.{seen, segmentsHeld, Sized}
+use Rattle.segments.specs.Seen.{seen, segmentsHeld, Sized}
 use Rattle.bulletin.specs.Report.{reported, reportOf, Reads}
-use Rattle.bulletin.specs.declared.Segment.{Segment}
-use Rattle.bulletin.specs.declared.Segments.{Segments}
+use Rattle.segments.specs.declared.Segment.{Segment}
+use Rattle.segments.specs.declared.Segments.{Segments}
 use Rattle.bulletin.specs.declared.Head.{Head}
 use Rattle.bulletin.specs.declared.Reading.the-variants as reading
 use Rattle.bulletin.specs.declared.Bulletin.{Bulletin}

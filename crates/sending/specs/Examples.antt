@@ -7,7 +7,7 @@ use lib.ListN.{length}
 use lib.Dec.{eqb}
 use Rattle.refusal.specs.Answer.{Answer, ok, no, andThen}
 use Rattle.lines.specs.Bytes.{bytes}
-use Rattle.bulletin.specs.Segments.{Segment}
+use Rattle.segments.specs.Segments.{Segment}
 use Rattle.bulletin.specs.Bulletin.{readBulletin}
 use Rattle.blocks.specs.Block.{sameList}
 use Rattle.forms.specs.Edited.{edited, writtenForms}

@@ -9,8 +9,8 @@ use Rattle.calendar.specs.Calendar.{dateOf}
 use Rattle.calendar.specs.declared.Date.{Date}
 use Rattle.bulletin.specs.Bulletin as rule
 use Rattle.bulletin.specs.Bulletin.{readBulletin}
-use Rattle.bulletin.specs.Seen.{seen, segmentsHeld, Sized}
-use Rattle.bulletin.specs.declared.Segments.{Segments}
+use Rattle.segments.specs.Seen.{seen, segmentsHeld, Sized}
+use Rattle.segments.specs.declared.Segments.{Segments}
 use Rattle.blocks.specs.Block.{numberAt}
 use Rattle.layout.specs.Layout.{bookOf}
 use Rattle.sending.specs.Send.{belongs}

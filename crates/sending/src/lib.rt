@@ -6,7 +6,7 @@ ghost use Rattle.forms.specs.Forms.{SoundBook, RoomFor};
 ghost use Rattle.sending.specs.Send.{WritesEdited};
 ghost use Rattle.sending.specs.Under.{IssueOn, Belonging};
 use bulletin::Reading;
-use bulletin::Segments;
+use segments::Segments;
 use calendar::Date;
 use calendar::Dated;
 use refusal::Refusal;

@@ -1,0 +1,15 @@
+use Rattle.segments.proofs.Seeking.{after-none, after-at}
+use borrow.Author.Needs.{needs}
+use Rattle.segments.proofs.after_first.Statement.{statement}
+use Rattle.segments.proofs.after_first.Tie as tie
+
+pub after-first-spec : {M : Type 1} → statement M
+after-first-spec =
+    tie.close
+    (tie.spec
+    (λ c κs. search needs)
+    (λ c. search needs)
+    (λ c. search needs)
+    (λ c. search (after-none, needs))
+    (λ c κs. search needs)
+    (λ c. search (after-at, needs)))
