@@ -21,7 +21,8 @@ use Rattle.codes.specs.Written.{inOrder}
 use Rattle.codes.proofs.Turns.{read-covers, read-purge, read-wrong}
 use Rattle.reading.specs.Placed.{purgePlace}
 use Rattle.segments.specs.Segments.{pastPurge}
-use Rattle.rereading.proofs.WholeLines.{joined-pieces, Whole, pieces-joined, body-short}
+use Rattle.segments.proofs.Purges.{body-short}
+use Rattle.rereading.proofs.WholeLines.{joined-pieces, Whole, pieces-joined}
 use Rattle.rereading.proofs.Inert.{Front, said-front, front-more, front-long, InertLine, front-inert}
 
 -- ---- the place after the line that has the purge, whose element stands at z

@@ -8,10 +8,10 @@ use mathlib.Core.List.{List, [], _∷_, _++_, append-assoc, append-nil}
 use lib.ListN.{length, drop, length-append}
 use lib.Dec.{eqb}
 use borrow.Author.Tests.{eqb-true}
-use Rattle.laws.proofs.Tests.{by, either-way}
+use Rattle.laws.proofs.Tests.{by}
 use Rattle.laws.specs.Lists.{All, all-nil, all-cons}
 use Rattle.lines.specs.Bytes.{lf}
-use Rattle.lines.specs.Lines.{glue, pieces, lineEnd, bodyOf, linesAt}
+use Rattle.lines.specs.Lines.{glue, pieces, bodyOf, linesAt}
 use Rattle.lines.specs.Check.{lastEnds}
 use Rattle.lines.proofs.Ends.{firstPiece, pieces-first}
 use Rattle.codes.specs.Written.{inOrder}
@@ -97,14 +97,6 @@ pub whole-ends : {ps : List (List ℕ)} → All Whole ps → lastEnds (inOrder p
 unfolding inOrder lastEnds
 whole-ends all-nil = refl
 whole-ends (all-cons {xs = ps} w ws) = ends-whole w (inOrder ps) (whole-ends ws)
-
--- a line without its end is no longer than with it
-pub body-short : (p : List ℕ) → length (bodyOf p) ≤ length p
-unfolding bodyOf
-body-short [] = omega arith
-body-short (b ∷ s) =
-    let h = body-short s in
-    either-way (λ (x : List ℕ). length x ≤ length (b ∷ s)) (lineEnd (b ∷ s)) {x = []} {y = b ∷ bodyOf s} (omega arith) (omega arith)
 
 -- ---- a search over lines
 -- a line that does not pass the test p

@@ -38,7 +38,7 @@ use Rattle.segments.specs.declared.Next.{Next}
 use Rattle.segments.specs.declared.Next.the-variants as next
 use Rattle.segments.specs.declared.Ending.the-variants as ending
 use Rattle.segments.proofs.Seeking.{next-is}
-use Rattle.segments.proofs.Purges.{past-is, block-behind}
+use Rattle.segments.proofs.Purges.{past-is, block-behind, block-skips}
 use Rattle.segments.proofs.Keeping.{kept-length, kept-more}
 
 -- ---- the segment that starts at a
@@ -55,24 +55,28 @@ module _ (s : List ℕ) (issue a : ℕ) (inside : a < length s) (c : Content) (e
   unfolding andThen
   begun-refused r y = record { same = λ n. opened-is n ∙ rw (refused-back (placedAt s issue a) c ec r y); few = λ g h. apart cc }
 
-  module _ (t at : ℕ) (y : c .purge ≡ purge.At t at) (f : Found) (e : foundLines s f ≡ fromFirst isEnd (linesOn s a)) where
+  module _ (t at : ℕ) (y : c .purge ≡ purge.At t at) (d : ℕ) (ed : d ≡ nextIn at (spanAt s at)) (f : Found) (e : foundLines s f ≡ fromFirst isEnd (linesOn s d)) where
     abbrev here : Placed
     here = record { content = record { purge = t; places = placesIn (c .places) }; at = at }
 
     placed-is : placedAt s issue a ≡ ok here
     placed-is = placed-back (placedAt s issue a) c ec t at y
 
+    -- the first `$$` line behind the block is the segment's
+    end-is : foundLines s f ≡ fromFirst isEnd (linesOn s a)
+    end-is = e ∙ ap (λ (n : ℕ). fromFirst isEnd (linesOn s n)) (ed ∙ next-is s at) ∙ sym (block-skips s a at inside (placed-parts s issue a here placed-is .purge))
+
     abbrev runs : ℕ → Answer (List segments.Segment)
     runs n = runsTo a (pastPurge at (lineAt s a) (linesOn s (nextOf s a))) (here .content) (segmentsFrom n s issue) (foundLines s f)
 
     runs-is : (n : ℕ) → seenOf (opened s issue (segmentsFrom n s issue) (linesOn s a)) ≡ seenOf (runs n)
     unfolding andThen
-    runs-is n = opened-is n ∙ rw (placed-is, e)
+    runs-is n = opened-is n ∙ rw (placed-is, end-is)
 
     pub begun-endless : f ≡ found.Nothing → (r : Next) → r ≡ next.Refused (refusalFor noEnd a) → Begun s issue a r
     begun-endless z r w = record { same = λ n. runs-is n ∙ rw (z, w); few = λ g h. let v : next.Refused (refusalFor noEnd a) ≡ next.One g = sym w ∙ h in apart cc }
 
-    module _ (g : Good (c .places)) (i : Inside s a f) (b : ℕ) (z : f ≡ found.At b) (d l : ℕ) (ed : d ≡ nextIn at (spanAt s at)) (el : l ≡ nextIn b (spanAt s b)) where
+    module _ (g : Good (c .places)) (i : Inside s d f) (b : ℕ) (z : f ≡ found.At b) (l : ℕ) (el : l ≡ nextIn b (spanAt s b)) where
       past-line : l ≡ nextOf s b
       past-line = el ∙ next-is s b
 

@@ -198,10 +198,10 @@ fn read_segment(text: &[u8], start: usize, issue: usize, kept: &mut [u32], at: u
     match purge {
         Purge::Refused(r) => Next::Refused(r),
         Purge::At(minute, place) => {
-            let Found::At(end) = first(text, start, Sought::End) else {
+            let block = after_line(text, place);
+            let Found::At(end) = first(text, block, Sought::End) else {
                 return refused(refusal::NO_END, start);
             };
-            let block = after_line(text, place);
             let past = after_line(text, end);
             let held = places.held;
             keep(kept, at, &held[0..count]);

@@ -13,6 +13,9 @@ enum-known-purge c = search needs
 enum-known-purge-2 : tie.Need-enum-known-purge-2
 enum-known-purge-2 c = search needs
 
+after-line-requires : tie.Need-after-line-requires
+after-line-requires c κs = search needs
+
 first-requires : tie.Need-first-requires
 first-requires c κs = search needs
 
@@ -27,9 +30,6 @@ refused-requires c κs = search needs
 
 returns : tie.Need-returns
 returns c = (search (begun-endless, needs), search (kept-refused, needs))
-
-after-line-requires : tie.Need-after-line-requires
-after-line-requires c κs = search needs
 
 after-line-requires-2 : tie.Need-after-line-requires-2
 after-line-requires-2 c κs = search needs
@@ -62,12 +62,12 @@ read-segment-spec =
     read-content-requires
     enum-known-purge
     enum-known-purge-2
+    after-line-requires
     first-requires
     enum-known-end
     enum-told
     refused-requires
     returns
-    after-line-requires
     after-line-requires-2
     sub-keep
     part-keep-start
