@@ -5,10 +5,11 @@ use mathlib.Core.Option.{some}
 use Prim.Native.Nat.{ℕ, zero, suc, _+_, _*_, _-_, _≤_, _<_}
 use native.Mathlib.Numerals.{add-one}
 use native.Mathlib.Omega.{arith}
-use lib.ListN.{length, take, drop, getD, set, replicate, length-set, length-replicate, replicate-append-replicate}
-use lib.Seq.{sets, sets-eq, length-sets, drop-drop, drop-at, take-suc, take-length, length-take-le}
+use lib.ListN.{length, take, drop, getD, set, replicate, length-set, length-replicate}
+use lib.Seq.{sets, sets-eq, length-sets, drop-drop, take-suc, take-length, length-take-le}
 use Rattle.blocks.proofs.Chunks.{flat-length}
 use Rattle.blocks.proofs.Numbers.{number-drop}
+use Rattle.laws.proofs.Lists.{drop-alike}
 use Rattle.laws.proofs.Stores.{sets-then, push-text}
 use Rattle.codes.specs.Places.{capacity}
 use Rattle.codes.specs.Block.{Content}
@@ -105,13 +106,6 @@ module _ (b₀ b places : List ℕ) (i : ℕ) (v : Putting b₀ b places i) wher
       v .bytes ∙ ap (λ (n : ℕ). sets b₀ 8 (flat bytes32 (take n places))) e ∙ ap (λ (l : List ℕ). sets b₀ 8 (flat bytes32 l)) (take-length places)
 
 -- ---- the whole block
-drop-zeros : (k n : ℕ) → k ≤ n → _≡_ {A = List ℕ} (drop k (replicate n 0)) (replicate (n - k) 0)
-drop-zeros k n h =
-    let e : n ≡ k + (n - k) = omega arith in
-    ap (λ (m : ℕ). drop {A = ℕ} k (replicate m 0)) e
-    ∙ ap (drop k) (sym (replicate-append-replicate k (n - k) 0))
-    ∙ drop-at (replicate k 0) (replicate (n - k) 0) k (length-replicate k 0)
-
 -- the bytes before the numbers
 front : ℕ → ℕ → List ℕ
 front p n = bytes32 p ++ (n ∷ 0 ∷ 0 ∷ 0 ∷ [])
@@ -131,7 +125,7 @@ content-stored p places h =
     ∙ sets-eq f (front p n ++ replicate 504 0) 8 (omega (arith, length-replicate {A = ℕ} 504 0))
     ∙ ap (λ (r : List ℕ). front p n ++ (f ++ r))
     (sym (drop-drop (length f) 8 (front p n ++ replicate 504 0))
-    ∙ drop-zeros (length f) 504 (omega arith)
+    ∙ drop-alike 0 (length f) 504 (omega arith)
     ∙ ap (λ (k : ℕ). replicate (504 - k) 0) m)
 
 pub content-made : (b₀ b₁ b₂ b₃ b₄ : List ℕ) (p : ℕ) (places : List ℕ) → length b₀ ≡ blockLength → length places ≤ capacity

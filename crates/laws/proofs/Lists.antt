@@ -3,8 +3,8 @@ use Prim.Native.Nat.{ℕ, zero, suc, _+_, _-_, _≤_, _<_}
 use native.Mathlib.Omega.{arith}
 use mathlib.Core.Path.{_≡_, subst, sym, ap, _∙_}
 use mathlib.Core.Option.{some}
-use lib.ListN.{length, take, drop, getD, getElem?, set}
-use lib.Seq.{take-add, drop-at, length-take-le}
+use lib.ListN.{length, take, drop, getD, getElem?, set, replicate, length-replicate, replicate-append-replicate}
+use lib.Seq.{take-add, take-at, drop-at, length-take-le}
 use mathlib.Core.List.{List, [], _∷_, _++_, map, List·Memᴰ, List·Memᴰ·head, List·Memᴰ·tail}
 use Rattle.laws.specs.Lists.{All, all-nil, all-cons}
 use Rattle.laws.proofs.Tests.{apart}
@@ -73,3 +73,18 @@ pub drop-take : {A : Type 0} (j n : ℕ) (l : List A) → j ≤ n → j ≤ leng
 drop-take j n l h k =
     let e : n ≡ j + (n - j) = omega arith in
     ap (λ (m : ℕ). drop j (take m l)) e ∙ ap (drop j) (take-add j (n - j) l) ∙ drop-at (take j l) (take (n - j) (drop j l)) j (length-take-le j l k)
+
+-- of so many alike, a part
+pub drop-alike : {A : Type 0} (x : A) (k n : ℕ) → k ≤ n → drop k (replicate n x) ≡ replicate (n - k) x
+drop-alike x k n h =
+    let e : n ≡ k + (n - k) = omega arith in
+    ap (λ (m : ℕ). drop k (replicate m x)) e
+    ∙ ap (drop k) (sym (replicate-append-replicate k (n - k) x))
+    ∙ drop-at (replicate k x) (replicate (n - k) x) k (length-replicate k x)
+
+pub take-alike : {A : Type 0} (x : A) (k n : ℕ) → k ≤ n → take k (replicate n x) ≡ replicate k x
+take-alike x k n h =
+    let e : n ≡ k + (n - k) = omega arith in
+    ap (λ (m : ℕ). take k (replicate m x)) e
+    ∙ ap (take k) (sym (replicate-append-replicate k (n - k) x))
+    ∙ take-at (replicate k x) (replicate (n - k) x) k (length-replicate k x)

@@ -1,18 +1,18 @@
 -- Places in an array: moved, filled, and a run put in at once. Assumes nothing.
-use Prim.Native.Nat.{ℕ, zero, suc, _+_, _-_, _≤_, _<_}
+use Prim.Native.Nat.{ℕ, zero, suc, _+_, _-_, _*_, _/_, _≤_, _<_}
 use native.Mathlib.Numerals.{add-one}
-use native.Mathlib.Nat.{add-zero, sub-zero}
+use native.Mathlib.Nat.{add-zero, add-assoc, sub-zero}
 use native.Mathlib.Omega.{arith}
 use mathlib.Core.Path.{_≡_, refl, sym, ap, ap₂, subst, _∙_}
 use mathlib.Core.List.{List, _∷_, _++_, append-assoc}
 use mathlib.Core.Bool.{Bool, true, false, _&&_}
 use mathlib.Core.Option.{none, some}
-use lib.ListN.{length, getD, take, drop, set, length-set, length-append, length-drop}
-use lib.Seq.{paste, paste-zero, paste-suc, length-paste, length-take-le, take-append-le, take-take, take-all, take-at, drop-at, drop-drop}
+use lib.ListN.{length, getD, take, drop, replicate, take-append-drop, set, length-set, length-append, length-drop}
+use lib.Seq.{paste, take-add, paste-zero, paste-suc, length-paste, length-take-le, take-append-le, take-take, take-all, take-at, drop-at, drop-drop}
 use lib.Dec.{ltb}
 use borrow.Author.Tests.{le-leb, lt-leb}
 use Rattle.laws.proofs.Tests.{by-order, impossible, apart}
-use Rattle.laws.proofs.Lists.{drop-take}
+use Rattle.laws.proofs.Lists.{drop-take, drop-alike, take-alike}
 use Rattle.laws.proofs.Pastes.{up-turn, paste-down}
 use Rattle.codes.specs.Places.{placesEnd, upward}
 use Rattle.codes.specs.Serving.{First}
@@ -159,6 +159,36 @@ rest-more : (held : List ℕ) (count total : ℕ) → count ≤ total → drop c
 rest-more held count total h e =
     let n : count + (total - count) ≡ total = omega arith in
     sym (drop-drop (total - count) count held ∙ rw n) ∙ ap (drop (total - count)) e ∙ drop-drop (total - count) count vacant ∙ rw n
+
+-- ---- moved up by whole eights
+-- so many zeros stand from a place on
+vacant-part : (e k : ℕ) → k + e ≤ 120 → take e (drop k vacant) ≡ replicate e 0
+unfolding vacant
+vacant-part e k h = ap (take e) (drop-alike 0 k 120 (omega arith)) ∙ take-alike 0 e (120 - k) (omega arith)
+
+module _ (held : List ℕ) (count i n : ℕ) (g : Good (kept held count)) (low : i ≤ count) where
+  -- zeros that stand behind the places move onto zeros
+  more-moved : (a m e : ℕ) → i + m ≡ count → a + m ≡ count + n → count + n + e ≤ 120 → paste held a (drop i held) (m + e) ≡ paste held a (drop i held) m
+  more-moved a m e em ea room =
+      let behind : drop m (drop i held) ≡ drop count vacant = drop-drop m i held ∙ rw em (g .rest) in
+      let there : drop (a + m) held ≡ drop (count + n) vacant = rw ea (rest-more held count (count + n) (omega arith) (g .rest)) in
+      let zeros : take e (drop m (drop i held)) ≡ take e (drop (a + m) held) =
+      rw (behind, there) (vacant-part e count (omega arith) ∙ sym (vacant-part e (count + n) (omega arith))) in
+      let end : drop (a + (m + e)) held ≡ drop e (drop (a + m) held) = sym (drop-drop e (a + m) held ∙ rw (add-assoc a m e)) in
+      ap₂ (λ (x y : List ℕ). take a held ++ x ++ y) (take-add m e (drop i held) ∙ ap (λ (x : List ℕ). take m (drop i held) ++ x) zeros) end
+      ∙ joined (take a held) (take m (drop i held)) (take e (drop (a + m) held)) (drop e (drop (a + m) held))
+      ∙ ap (λ (x : List ℕ). take a held ++ take m (drop i held) ++ x) (take-append-drop e (drop (a + m) held))
+    where
+      joined : (a b c d : List ℕ) → a ++ (b ++ c) ++ d ≡ a ++ b ++ (c ++ d)
+      joined a b c d = simp append-assoc
+
+  pub eights-moved : i + n + (count - i + 7) / 8 * 8 ≤ 120 → (array : List ℕ) → array ≡ paste held (i + n) (drop i held) ((count - i + 7) / 8 * 8)
+      → array ≡ paste held (i + n) (drop i held) (count - i)
+  eights-moved room array e =
+      let m : ℕ = count - i in
+      let eights : ℕ = (m + 7) / 8 * 8 in
+      let same : m + (eights - m) ≡ eights = omega arith in
+      e ∙ ap (paste held (i + n) (drop i held)) (sym same) ∙ more-moved (i + n) m (eights - m) (omega arith) (omega arith) (omega arith)
 
 -- ---- a run put in at once, between those that are less than its first place and those that are not less than its end
 module _ (held : List ℕ) (count p q n i : ℕ) (g : Good (kept held count)) (pq : p < q) (en : n ≡ q - p) (fp : First p (take count held) i) (fq : First q (take count held) i)

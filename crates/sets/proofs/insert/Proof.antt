@@ -30,14 +30,8 @@ same-length-2 c = search needs
 returns-2 : tie.Need-returns-2
 returns-2 c = search (insert-over, needs)
 
-add-move-up : tie.Need-add-move-up
-add-move-up c = search needs
-
-sub-move-up : tie.Need-sub-move-up
-sub-move-up c = search needs
-
-move-up-requires : tie.Need-move-up-requires
-move-up-requires c κs = search needs
+make-way-requires : tie.Need-make-way-requires
+make-way-requires c κs = search needs
 
 fill-requires : tie.Need-fill-requires
 fill-requires c κs = search needs
@@ -61,9 +55,7 @@ insert-spec =
     add-total
     same-length-2
     returns-2
-    add-move-up
-    sub-move-up
-    move-up-requires
+    make-way-requires
     fill-requires
     same-length-3
     returns-3)
