@@ -6,10 +6,10 @@ ghost use Rattle.forms.specs.Forms.{SoundBook, RoomFor};
 ghost use Rattle.sending.specs.Send.{WritesEdited};
 ghost use Rattle.sending.specs.Under.{IssueOn, Belonging};
 use bulletin::Reading;
-use segments::Segments;
 use calendar::Date;
 use calendar::Dated;
 use refusal::Refusal;
+use segments::Segments;
 use writing::Written;
 
 fn refused(number: usize) -> Written
