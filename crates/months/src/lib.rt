@@ -17,21 +17,17 @@ pub enum Found {
     Nothing,
 }
 
-// The lengths of the months, January to December, of a year that is no leap year.
-const LENGTHS: [usize; 12] = [31, 28, 31, 30, 31, 30, 31, 31, 30, 31, 30, 31];
-
 // 2100-02-01 0000, where the calendar ends.
 const END: usize = 68418720;
 
+// The days of a month. Long and short months take turns, and July and August are both long: up to July the odd months have 31 days, and from August on, where
+// `month / 8` becomes 1, the even ones; the others have 30. February alone has 2 less than its turn, or 1 less in a leap year, as every fourth year is.
 pub fn month_length(year: usize, month: usize) -> usize
     requires { ⌜ Twelve month ⌝ }
     ensures is { λ r. ⌜ r ≡ lengthIn year month ⌝ }
     ensures most { λ r. ⌜ r ≤ 31 ⌝ }
 {
-    if (month == 2) & (year % 4 == 0) {
-        return 29;
-    }
-    LENGTHS[month - 1]
+    30 + (month + month / 8) % 2 - (month == 2) as usize * (2 - (year % 4 == 0) as usize)
 }
 
 // The days before the year 1970 + n: 365 for each, and one for each leap year.
