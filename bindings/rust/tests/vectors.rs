@@ -1,8 +1,8 @@
 //! Both sides against inputs with right answers.
 //!
 //! The inputs, with endings `.in` and `.out`, are in the folder that
-//! HOLLGRIMSA_VECTORS names; without it they are skipped. level-03 is of
-//! document 01 with. A request that changes what an older input
+//! HOLLGRIMSA_VECTORS names; without it they are skipped. level-04 is of
+//! document 01 with. A request that changes what an older input
 //! prints leaves that input out here, as did with those before.
 
 mod plain;
@@ -16,13 +16,13 @@ use replay::{replay, Calls};
 use sides::{Core, Plain};
 
 #[test]
-fn core_agrees_with_level_03() {
-    compare("core", &Core, "level-03");
+fn core_agrees_with_level_04() {
+    compare("core", &Core, "level-04");
 }
 
 #[test]
-fn plain_agrees_with_level_03() {
-    compare("plain", &Plain, "level-03");
+fn plain_agrees_with_level_04() {
+    compare("plain", &Plain, "level-04");
 }
 
 /// The lines `F n` and `% n`: the edited bulletin of the case's text and the

@@ -123,7 +123,7 @@ fn few_places(rng: &mut Rng) -> Vec<u32> {
 }
 
 /// A bulletin of 8 segments with 120 places each, in elements of so many, and
-/// four lines of text.
+/// one line of text.
 pub fn full_segments(rng: &mut Rng, width: usize, order: Order) -> Vec<u8> {
     let mut text = [HEAD, MND].concat().into_bytes();
     for _ in 0..8 {
@@ -131,9 +131,7 @@ pub fn full_segments(rng: &mut Rng, width: usize, order: Order) -> Vec<u8> {
         let mut elements = ascending(rng, prefix, 120 / width, width);
         order.apply(rng, &mut elements);
         push_block(rng, &elements, 66, &mut text);
-        for _ in 0..4 {
-            text.extend(rng.pick(&LINES).bytes());
-        }
+        text.extend(rng.pick(&LINES).bytes());
         text.extend(END.bytes());
     }
     text
