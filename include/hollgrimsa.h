@@ -180,8 +180,8 @@ uint64_t hollgrimsa_place(const uint8_t *text, size_t text_length, uint64_t year
 /* ---- the writer */
 
 /* Writes the block of these places, strictly ascending, 1..120 of them, and this purge minute to the front of the output,
- * and answers its length; later bytes stay. places_length counts places, and the pointer is aligned for uint32_t.
- * Refusals: 24 (places or minute); 23. */
+ * each of its lines ended with CR CR LF, and answers its length; later bytes stay. places_length counts places, and the
+ * pointer is aligned for uint32_t. Refusals: 24 (places or minute); 23. */
 uint64_t hollgrimsa_write_block(uint8_t *out, size_t out_length, const uint32_t *places, size_t places_length, uint64_t purge);
 
 /* ---- the book
@@ -229,13 +229,14 @@ uint64_t hollgrimsa_drop(uint8_t *book, size_t book_length, uint64_t draft);
  * hollgrimsa_changed. Refusals: 1; 12; 22. */
 uint64_t hollgrimsa_undo(uint8_t *book, size_t book_length);
 
-/* Writes the block of a segment of the book to the front of the output, and answers its length; later bytes stay.
- * Refusals: 1; 12; 15; 23. */
+/* Writes the block of a segment of the book to the front of the output, each of its lines ended with CR CR LF, and answers
+ * its length; later bytes stay. Refusals: 1; 12; 15; 23. */
 uint64_t hollgrimsa_write(const uint8_t *book, size_t book_length, uint64_t segment, uint8_t *out, size_t out_length);
 
 /* Writes the edited bulletin to the front of the output, and answers its length; later bytes stay. It is the text with the
  * block of each segment, from its first byte through the line end behind its purge, replaced by the block that
- * hollgrimsa_write writes of that segment of the book; every other byte is kept. Drafts and steps do not show.
+ * hollgrimsa_write writes of that segment of the book, but with each of its lines ended as the first line of the replaced
+ * block: LF, CR LF or CR CR LF. Every other byte is kept. Drafts and steps do not show.
  *
  * The text is read under the year and month of the book's issue. It belongs to the book if its issue minute and its number
  * of segments are the book's. text_length + 8 * HOLLGRIMSA_BLOCK_MOST bytes are always enough, and so are

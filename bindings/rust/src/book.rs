@@ -145,8 +145,8 @@ impl Book {
         calls::undo(self.as_bytes_mut())
     }
 
-    /// Writes a segment's block, line ends with it, to the front of the
-    /// output; answers its length. Later bytes stay.
+    /// Writes a segment's block, each of its lines ended with CR CR LF, to the
+    /// front of the output; answers its length. Later bytes stay.
     ///
     /// # Errors
     /// 15 where there is no such segment; 23 where the output is shorter than
@@ -155,7 +155,7 @@ impl Book {
         calls::write(self.as_bytes(), segment, out)
     }
 
-    /// A segment's block as a string, line ends with it.
+    /// A segment's block as a string, each of its lines ended with CR CR LF.
     ///
     /// # Errors
     /// 15 where there is no such segment.
@@ -182,7 +182,8 @@ impl Book {
 
     /// The edited bulletin of a text: the text with each segment's block, line
     /// ends with it, replaced by what [`written`](Book::written) gives of that
-    /// segment. Every other byte is kept.
+    /// segment, but with each of its lines ended as the first line of the
+    /// replaced block: LF, CR LF or CR CR LF. Every other byte is kept.
     ///
     /// The text is the one that the book was made of, or another with its
     /// issue and as many segments. Every block is replaced, also where nobody
@@ -206,7 +207,7 @@ impl Book {
     /// draft.commit()?;
     ///
     /// let edited = book.edited(text)?;
-    /// assert_eq!(edited, b"FPUS51 KXYZ 240822\nZFPXYZ\nMDC003-005-242100-\r\r\nTEXT\n$$\n");
+    /// assert_eq!(edited, b"FPUS51 KXYZ 240822\nZFPXYZ\nMDC003-005-242100-\nTEXT\n$$\n");
     /// assert_eq!(Book::make(&edited, 2002, 4)?.written(1)?, book.written(1)?);
     ///
     /// let later = b"FPUS51 KXYZ 240823\nZFPXYZ\nMDC003-242100-\nTEXT\n$$\n";

@@ -86,8 +86,9 @@ pub fn place(text: &[u8], year: u64, month: u64, n: u64, index: u64) -> Result<u
     })
 }
 
-/// Writes the block of these places and this purge minute to the front of the
-/// output; answers its length. Later bytes stay.
+/// Writes the block of these places and this purge minute, each of its lines
+/// ended with CR CR LF, to the front of the output; answers its length. Later
+/// bytes stay.
 ///
 /// The places are 1 to 120, strictly ascending. Refusals: 24 (places or
 /// minute); 23. No block is longer than [`BLOCK_MOST`](crate::BLOCK_MOST).
@@ -211,8 +212,9 @@ pub fn undo(book: &mut [u8]) -> Result<Changed, Refusal> {
     answer::changed(unsafe { sys::hollgrimsa_undo(book.as_mut_ptr(), book.len()) })
 }
 
-/// Writes the block of a segment of the book to the front of the output;
-/// answers its length. Later bytes stay. Refusals: 1; 12; 15; 23.
+/// Writes the block of a segment of the book, each of its lines ended with
+/// CR CR LF, to the front of the output; answers its length. Later bytes stay.
+/// Refusals: 1; 12; 15; 23.
 pub fn write(book: &[u8], segment: u64, out: &mut [u8]) -> Result<usize, Refusal> {
     answer::length(unsafe {
         sys::hollgrimsa_write(
@@ -229,11 +231,12 @@ pub fn write(book: &[u8], segment: u64, out: &mut [u8]) -> Result<usize, Refusal
 /// Later bytes stay.
 ///
 /// That is the text with each segment's block, line ends with it, replaced by
-/// the block that [`write`] writes of that segment of the book; every other
-/// byte is kept. The text is read under the year and month of the book's
-/// issue, and belongs to the book if its issue and its number of segments are
-/// the book's. Refusals: 1 (text or book); 12; the reader's, see [`issue`];
-/// 27; 23. No edited bulletin is longer than
+/// the block that [`write`] writes of that segment of the book, but with each
+/// of its lines ended as the first line of the replaced block: LF, CR LF or
+/// CR CR LF. Every other byte is kept. The text is read under the year and
+/// month of the book's issue, and belongs to the book if its issue and its
+/// number of segments are the book's. Refusals: 1 (text or book); 12; the
+/// reader's, see [`issue`]; 27; 23. No edited bulletin is longer than
 /// [`EDITED_MOST`](crate::EDITED_MOST).
 ///
 /// ```
@@ -243,7 +246,7 @@ pub fn write(book: &[u8], segment: u64, out: &mut [u8]) -> Result<usize, Refusal
 /// let (mut book, mut out) = ([0; BOOK_LENGTH], [0; EDITED_MOST]);
 /// calls::make(&mut book, text, 2002, 4)?;
 /// let length = calls::write_edited(text, &book, &mut out)?;
-/// assert!(out[..length].ends_with(b"ZFPXYZ\nMDC003-005-242100-\r\r\nTEXT\n$$\n"));
+/// assert!(out[..length].ends_with(b"ZFPXYZ\nMDC003-005-242100-\nTEXT\n$$\n"));
 /// # Ok::<(), hollgrimsa::Refusal>(())
 /// ```
 pub fn write_edited(text: &[u8], book: &[u8], out: &mut [u8]) -> Result<usize, Refusal> {

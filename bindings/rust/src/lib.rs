@@ -26,7 +26,7 @@
 //!         print!("{}", book.written(segment.into())?);
 //!     }
 //!     let edited = book.edited(text)?;
-//!     assert!(edited.ends_with(b"VAZ053-054-250000-\r\r\nTEXT TWO\n$$\n"));
+//!     assert!(edited.ends_with(b"VAZ053-054-250000-\nTEXT TWO\n$$\n"));
 //!     Ok(())
 //! }
 //! ```

@@ -7,10 +7,9 @@ mod sides;
 
 use std::ops::Range;
 
-use generate::calls::call;
-use generate::{books, Lent, Rng};
-use replay::{Answer, Calls};
-use sides::{Call, Core, Pair, Plain, Reader, Tally, Text};
+use generate::{books, lines_of, Case, Rng};
+use replay::Calls;
+use sides::{Call, Core, Pair, Reader, Tally, Text};
 
 const BOOK: usize = hollgrimsa::BOOK_LENGTH;
 const TEXT_MOST: usize = hollgrimsa::TEXT_MOST;
@@ -25,70 +24,21 @@ const SEGMENTS: Range<usize> = 512..9 * 512;
 /// What the call can be refused with.
 const REFUSALS: [usize; 15] = [1, 2, 3, 4, 5, 6, 7, 8, 9, 10, 11, 12, 23, 25, 27];
 
-/// A right text, and a book that was made of it and worked on.
-struct Case {
-    text: Vec<u8>,
-    lent: Lent,
-    pair: Pair,
-}
-
-impl Case {
-    /// The first of these texts that reads, with its book.
-    fn of(rng: &mut Rng, mut text: impl FnMut(&mut Rng) -> Vec<u8>) -> Self {
-        let mut book = vec![0xAA; BOOK];
-        loop {
-            let (text, lent) = (text(rng), generate::lent(rng));
-            if Plain.make(&text, lent.0, lent.1, &mut book).is_ok() {
-                if rng.once_in(3) {
-                    books::refill(rng, &mut book);
-                }
-                let pair = Pair::new(&book);
-                let mut case = Case { text, lent, pair };
-                case.work(rng);
-                return case;
-            }
-        }
-    }
-
-    /// Some calls, so that drafts are open and steps kept.
-    fn work(&mut self, rng: &mut Rng) {
-        for _ in 0..rng.pick(&[0, 10, 40]) {
-            let call = call(rng, self.pair.book());
-            let _ = self.pair.perform(call, BLOCK, &mut Tally::new());
-        }
-    }
-
-    /// Writes the edited bulletin of the case's own text, which is accepted.
-    fn edited(&mut self, tally: &mut Tally) -> Vec<u8> {
-        write(&mut self.pair, &self.text, ROOM, tally).expect("the book's own text")
-    }
-}
-
-/// Writes the edited bulletin on both sides and compares; answers its bytes.
-fn write(pair: &mut Pair, text: &[u8], room: usize, tally: &mut Tally) -> Answer<Vec<u8>> {
-    let kept = text.to_vec();
-    let (told, mut output) = pair.perform_seen(Call::WriteEdited(Text(text)), room, tally);
-    assert_eq!(text, kept, "the text was written to");
-    let (length, _) = told?;
-    let behind = output.split_off(length);
-    assert!(behind.iter().all(|&byte| byte == 0x5A), "later bytes stay");
-    Ok(output)
-}
-
 /// Writes into outputs of all kinds of lengths: enough, exact, one short, none.
 fn write_in_rooms(pair: &mut Pair, text: &[u8], tally: &mut Tally) {
-    let full = write(pair, text, ROOM, tally);
+    let full = pair.write_edited(text, ROOM, tally);
     let Ok(edited) = full else {
         // 23 comes last.
-        assert_eq!(write(pair, text, 0, tally), full);
+        assert_eq!(pair.write_edited(text, 0, tally), full);
         return;
     };
     let length = edited.len();
     for room in [length, length + 1] {
-        assert_eq!(write(pair, text, room, tally).as_ref(), Ok(&edited));
+        let written = pair.write_edited(text, room, tally);
+        assert_eq!(written.as_ref(), Ok(&edited));
     }
     for room in [0, length / 2, length - 1] {
-        assert_eq!(write(pair, text, room, tally), Err((23, 0)));
+        assert_eq!(pair.write_edited(text, room, tally), Err((23, 0)));
     }
 }
 
@@ -167,7 +117,7 @@ fn texts_of_other_books() {
         ("240822", 0, Some((7, 26))),
     ] {
         let text = text(time, segments);
-        let written = write(&mut pair, text.as_bytes(), ROOM, &mut tally);
+        let written = pair.write_edited(text.as_bytes(), ROOM, &mut tally);
         assert_eq!(written.err(), right, "{text:?}");
         write_in_rooms(&mut pair, text.as_bytes(), &mut tally);
     }
@@ -181,16 +131,16 @@ fn the_month_is_the_books() {
     let other: &[u8] = b"FPUS51 KXYZ 010000\nZFPXYZ\nMDC001-301200-\n$$\n";
     let mut tally = Tally::new();
     for (year, month, own, right) in [
-        (2003, 3, text, Ok(46)),
+        (2003, 3, text, Ok(44)),
         (2003, 1, other, Err((5, 33))),
         (2003, 4, other, Err((5, 0))),
         (2003, 3, other, Err((27, 0))),
-        (2004, 12, text, Ok(46)),
-        (2099, 12, text, Ok(46)),
+        (2004, 12, text, Ok(44)),
+        (2099, 12, text, Ok(44)),
     ] {
         let mut book = vec![0; BOOK];
         Core.make(own, year, month, &mut book).unwrap();
-        let written = write(&mut Pair::new(&book), text, ROOM, &mut tally);
+        let written = Pair::new(&book).write_edited(text, ROOM, &mut tally);
         assert_eq!(written.map(|out| out.len()), right, "{year} {month}");
     }
     tally.assert_seen("the month is the book's", [0, 5, 27]);
@@ -205,7 +155,7 @@ fn outputs_of_all_lengths() {
         let mut case = Case::of(&mut rng, generate::small_text);
         let edited = case.edited(&mut tally);
         for room in 0..edited.len() + 3 {
-            let written = write(&mut case.pair, &case.text, room, &mut tally);
+            let written = case.pair.write_edited(&case.text, room, &mut tally);
             let right = if room < edited.len() {
                 Err((23, 0))
             } else {
@@ -229,14 +179,14 @@ fn other_lengths() {
     for text in [&case.text[..], b"", &long[..TEXT_MOST + 1], &long[..], b"?"] {
         for length in [0, 1, 512, BOOK - 512, BOOK - 1, BOOK + 1, 30_000] {
             for room in [0, ROOM] {
-                let written = write(&mut Pair::new(&book[..length]), text, room, &mut tally);
+                let written = Pair::new(&book[..length]).write_edited(text, room, &mut tally);
                 assert_eq!(written, Err((1, 0)), "{length}");
             }
         }
     }
     for text in [&long[..0], &long[..TEXT_MOST + 1], &long[..]] {
         for book in [&book[..BOOK], &[0xAA; BOOK]] {
-            let written = write(&mut Pair::new(book), text, ROOM, &mut tally);
+            let written = Pair::new(book).write_edited(text, ROOM, &mut tally);
             assert_eq!(written, Err((1, 0)));
         }
     }
@@ -278,7 +228,8 @@ fn what_is_written() {
     }
 }
 
-/// The text's own bytes, and each block as the book's write call gives it.
+/// The text's own bytes, and each block as the book's write call gives it, but
+/// with its lines ended as the first line of the old block.
 fn check_written(case: &Case, edited: &[u8]) {
     let (text, (year, month)) = (&case.text, case.lent);
     let count = Core.head(text, year, month).unwrap().segments;
@@ -288,7 +239,11 @@ fn check_written(case: &Case, edited: &[u8]) {
         let mut block = [0; BLOCK];
         let length = Core.write(case.pair.book(), number, &mut block).unwrap();
         right.extend_from_slice(&text[at..segment.start]);
-        right.extend_from_slice(&block[..length]);
+        let (_, end) = lines_of(&text[segment.start..]).next().unwrap();
+        for (line, _) in lines_of(&block[..length]) {
+            right.extend_from_slice(line);
+            right.extend_from_slice(end);
+        }
         at = segment.block_end;
     }
     right.extend_from_slice(&text[at..]);
@@ -297,7 +252,7 @@ fn check_written(case: &Case, edited: &[u8]) {
 
 /// What was written reads to what the book holds, and writes out the same.
 fn check_again(case: &mut Case, edited: &[u8], tally: &mut Tally) {
-    let again = write(&mut case.pair, edited, ROOM, tally);
+    let again = case.pair.write_edited(edited, ROOM, tally);
     if edited.len() > TEXT_MOST {
         assert_eq!(again, Err((1, 0)));
         return;
@@ -312,7 +267,7 @@ fn check_again(case: &mut Case, edited: &[u8], tally: &mut Tally) {
     let book = case.pair.book();
     assert_eq!(made[..5], book[..5], "issue and number of segments");
     assert_eq!(made[SEGMENTS], book[SEGMENTS], "{:?}", Text(edited));
-    let own = write(&mut Pair::new(&made), edited, ROOM, tally);
+    let own = Pair::new(&made).write_edited(edited, ROOM, tally);
     assert_eq!(own.as_deref(), Ok(edited), "a text in written form stays");
 }
 
@@ -331,7 +286,7 @@ fn drafts_and_steps_do_not_show() {
         drafts += usize::from(bare[DRAFTS].iter().any(|&byte| byte != 0));
         steps += usize::from(bare[STEPS] != 0);
         books::strip(&mut bare);
-        let written = write(&mut Pair::new(&bare), &case.text, ROOM, &mut tally);
+        let written = Pair::new(&bare).write_edited(&case.text, ROOM, &mut tally);
         assert_eq!(written, Ok(edited));
     }
     println!("{name}: {drafts} books with drafts, {steps} with steps");

@@ -1,9 +1,9 @@
 //! Both sides against inputs with right answers.
 //!
 //! The inputs, with endings `.in` and `.out`, are in the folder that
-//! HOLLGRIMSA_VECTORS names; without it they are skipped. level-04 is of
-//! document 01 with R-1 to R-4. A request that changes what an older input
-//! prints leaves that input out here, as R-2 and R-3 did with those before.
+//! HOLLGRIMSA_VECTORS names; without it they are skipped. level-05 is of
+//! document 01 with R-1 to R-5. A request that changes what an older input
+//! prints leaves that input out here, as R-2, R-3 and R-5 did with those before.
 
 mod plain;
 mod replay;
@@ -16,13 +16,13 @@ use replay::{replay, Calls};
 use sides::{Core, Plain};
 
 #[test]
-fn core_agrees_with_level_04() {
-    compare("core", &Core, "level-04");
+fn core_agrees_with_level_05() {
+    compare("core", &Core, "level-05");
 }
 
 #[test]
-fn plain_agrees_with_level_04() {
-    compare("plain", &Plain, "level-04");
+fn plain_agrees_with_level_05() {
+    compare("plain", &Plain, "level-05");
 }
 
 /// The lines `F n` and `% n`: the edited bulletin of the case's text and the
@@ -30,12 +30,12 @@ fn plain_agrees_with_level_04() {
 #[test]
 fn edited_example_agrees() {
     let input = b"2002 04\n00044\nFPUS51 KXYZ 240822\nZFPXYZ\nMDC001-242100-\n$$\n\
-        F 46\nF 45\nF 50\nF 20000\nF 20001\nF\n\
+        F 44\nF 43\nF 50\nF 20000\nF 20001\nF\n\
         % 55\nFPUS51 KXYZ 240822\nZFPXYZ\nMDC005-003-\n242100-\r\nTEXT\n$$\nF 60\n\
         % 44\nFPUS51 KXYZ 240823\nZFPXYZ\nMDC001-242100-\n$$\nF 0\n\
         % 3\nABCF 20000\n% 100000\nF 1\n% 0\nF 1\nE\nL 5\nF 1\n% 9\n12345678";
-    let output = "K\nF 46 51600\nR 23 0\nF 46 69060\nF 46 820985146\n?\n?\n\
-        !\nF 51 112647\n!\nR 27 0\n!\nR 2 3\n?\nR 2 3\n!\nR 1 0\nR 1 0\n!\nR 1 0\n?\n";
+    let output = "K\nF 44 50337\nR 23 0\nF 44 75987\nF 44 820992073\n?\n?\n\
+        !\nF 49 119804\n!\nR 27 0\n!\nR 2 3\n?\nR 2 3\n!\nR 1 0\nR 1 0\n!\nR 1 0\n?\n";
     assert_eq!(replay(&Plain, input), output);
     assert_eq!(replay(&Core, input), output);
 }

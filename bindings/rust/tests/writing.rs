@@ -5,7 +5,7 @@ mod plain;
 mod replay;
 mod sides;
 
-use generate::{ascending_places, Rng};
+use generate::{all_end, ascending_places, Rng};
 use sides::{Core, Guarded, Plain, Reader, Tally};
 
 /// The first minute that no block can have.
@@ -56,7 +56,8 @@ fn purge(rng: &mut Rng) -> usize {
     }
 }
 
-/// Writes on both sides; answers the length where it is accepted.
+/// Writes on both sides; answers the length where it is accepted. All lines end
+/// CR CR LF.
 fn compare(places: &[u32], purge: usize, room: usize, tally: &mut Tally) -> Option<usize> {
     let untouched = Guarded::filled(room, 0x5A);
     let (mut core, mut plain) = (untouched.clone(), untouched.clone());
@@ -65,8 +66,15 @@ fn compare(places: &[u32], purge: usize, room: usize, tally: &mut Tally) -> Opti
     tally.note(&answer);
     assert_eq!(answer, right, "{places:?} {purge} in {room}");
     assert_eq!(core, plain, "{places:?} {purge} in {room}");
-    if answer.is_err() {
-        assert_eq!(core, untouched, "{places:?} {purge} in {room}");
+    match answer {
+        Ok(length) => {
+            let block = &core.lent()[..length];
+            assert!(all_end(block, b"\r\r\n"), "{places:?} {purge}");
+            Some(length)
+        }
+        Err(_) => {
+            assert_eq!(core, untouched, "{places:?} {purge} in {room}");
+            None
+        }
     }
-    answer.ok()
 }

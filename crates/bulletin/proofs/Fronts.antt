@@ -4,7 +4,7 @@ use native.Mathlib.Omega.{arith}
 use mathlib.Core.Path.{_≡_, refl, sym, ap, _∙_}
 use mathlib.Core.List.{List, [], _∷_}
 use mathlib.Core.Bool.{Bool, true, false, cond}
-use mathlib.Core.Option.{Option, none}
+use mathlib.Core.Option.{Option, none, some}
 use lib.ListN.{length, drop, length-drop}
 use borrow.Author.Tests.{eqb-true}
 use Rattle.laws.proofs.Tests.{by, impossible, apart, and-left}
@@ -16,7 +16,7 @@ use Rattle.lines.specs.Spans.{spanAt, paperLined, part}
 use Rattle.lines.specs.declared.Span.{Span}
 use Rattle.lines.specs.declared.Lined.{Lined}
 use Rattle.lines.specs.declared.Lined.the-variants as lined
-use Rattle.lines.proofs.Ends.{endOf, lineAt, lines-step, lines-last, found-none, found-here, found-end}
+use Rattle.lines.proofs.Ends.{endOf, lineAt, lines-step, lines-last, found-none, found-here, found-end, span-inside}
 use Rattle.lines.proofs.Strings.{exactly-is}
 use Rattle.heading.specs.Storm as storm
 use Rattle.heading.specs.Storm.{isOffice, stormForm, namesStorm, StormName, stormOf}
@@ -26,7 +26,7 @@ use Rattle.heading.specs.declared.Storm.the-variants as named
 use Rattle.heading.specs.declared.Named.{Named}
 use Rattle.heading.specs.declared.Named.the-variants as naming
 use Rattle.segments.specs.Search.{fromFirst, upToFirst, closes}
-use Rattle.segments.specs.Searching.{officeOrClose, linesOn, foundLines, Inside}
+use Rattle.segments.specs.Searching.{officeOrClose, linesOn, foundLines, LineFrom, Inside}
 use Rattle.bulletin.specs.Mnd.{stormSaid, officeStorm}
 use Rattle.bulletin.specs.Starts.{fromLine3}
 use Rattle.bulletin.specs.Front.{paperStormed, paperStart}
@@ -61,17 +61,20 @@ module _ (s : List ℕ) (from : ℕ) (f : Found) (ef : foundLines s f ≡ fromFi
   unfolding firstStorm
   storm-none q = sym (office-is (linesOn s from) ∙ rw (← ef, q))
 
-  -- a line that was found is there
-  pub storm-gone : Inside s from f → (a : ℕ) → f ≡ found.At a → (r : Lined) → paperLined r ≡ spanAt s a → r ≡ lined.Nothing → ⊥
-  storm-gone i a q r e z = omega (arith, (rw q at i) .1, found-none s a r e z)
+  module _ (i : Inside s from f) (l : Span) (q : f ≡ found.Line l) (line : List ℕ) (en : line ≡ part s (l .start) (l .end)) (t : Bool) (et : t ≡ closes line) where
+    abbrev a : ℕ
+    a = l .start
 
-  module _ (i : Inside s from f) (a : ℕ) (q : f ≡ found.At a) (r : Lined) (er : paperLined r ≡ spanAt s a) (l : Span) (el : r ≡ lined.Line l) (line : List ℕ) (en : line ≡ part s a (l .end)) (t : Bool) (et : t ≡ closes line) where
+    -- it is the line that starts where it does
+    here : spanAt s a ≡ some l
+    here = let v : LineFrom s from l = rw q at i in v .is
+
     body-is : lineAt s a .body ≡ line
-    body-is = sym (body-of s a r er l el line en)
+    body-is = sym (body-of s a (lined.Line l) (sym here) l refl line en)
 
     first-is : officeStorm (fromFirst isOffice (upToFirst closes (linesOn s from))) ≡ cond t (ok none) (stormSaid (lineAt s a) (stormOf line))
     unfolding firstStorm
-    first-is = office-is (linesOn s from) ∙ rw (← ef, q, lines-step s a ((rw q at i) .1), body-is, ← et)
+    first-is = office-is (linesOn s from) ∙ rw (← ef, q, lines-step s a (span-inside s l here), body-is, ← et)
 
     pub storm-closed : t ≡ true → paperStormed (stormed.Right named.None) ≡ officeStorm (fromFirst isOffice (upToFirst closes (linesOn s from)))
     storm-closed y = sym (first-is ∙ rw y)
@@ -90,7 +93,7 @@ module _ (s : List ℕ) (from : ℕ) (f : Found) (ef : foundLines s f ≡ fromFi
       module _ (y : m ≡ naming.Wrong) where
         end-is : l .end ≡ a + length line
         unfolding endOf
-        end-is = found-end s a r er l el ∙ ap (λ (x : List ℕ). a + length x) body-is
+        end-is = found-end s a (lined.Line l) (sym here) l refl ∙ ap (λ (x : List ℕ). a + length x) body-is
 
         long : 9 ≤ length line
         long = storm-long line (sym em ∙ ap paperNamed y)

@@ -28,7 +28,7 @@ use Rattle.segments.specs.Listing.{seenOf, seenFrom, listedBy, paperListed}
 use Rattle.segments.specs.KeptBy.{keptFrom}
 use Rattle.bulletin.specs.Report.{Report, reported, reportOf, paperBulletin, segmentsReported, Reads}
 use Rattle.bulletin.specs.Below.{someSeen, listedOf, headOf, belowTop, belowOf, refusedFor, Answers}
-use Rattle.bulletin.specs.Front.{paperStormed, paperStart, textChecked, Above, topOf, paperTopped}
+use Rattle.bulletin.specs.Front.{paperStormed, paperStart, textChecked, Above, secondOf, topOf, paperTopped}
 use Rattle.segments.specs.declared.Segment.{Segment}
 use Rattle.segments.specs.declared.Ending.{Ending}
 use Rattle.segments.specs.declared.Ending.the-variants as ending
@@ -138,7 +138,7 @@ unfolding andThen
 then-ok x f = refl
 
 order : (s : List ℕ) (year month : ℕ) → readBulletin s year month ≡ andThen (textChecked s year month) (λ _. andThen (topOf s year month) (rest s))
-unfolding readBulletin textChecked topOf stormIn segmentsOf firstLines
+unfolding readBulletin textChecked topOf secondOf stormIn segmentsOf firstLines
 order s year month = simp (then-then, then-ok)
 
 -- ---- what is below, as the reader's answer has it

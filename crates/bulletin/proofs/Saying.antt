@@ -65,10 +65,10 @@ module _ (text : List ℕ) (issue : ℕ) where
   abbrev pub Says : Segment → Type 0
   Says g = contentAt text issue (g .start) ≡ ok (g .content)
 
-  runs-say : (start past : ℕ) (c : Content) (next : List Line → Answer (List Segment)) → contentAt text issue start ≡ ok c
-      → ((ls : List Line) (gs : List Segment) → next ls ≡ ok gs → All Says gs) → (ls : List Line) (gs : List Segment) → runsTo start past c next ls ≡ ok gs → All Says gs
-  runs-say start past c next e f [] gs w = apart cc
-  runs-say start past c next e f (x ∷ ls) gs w =
+  runs-say : (l : Line) (past : ℕ) (c : Content) (next : List Line → Answer (List Segment)) → contentAt text issue (l .start) ≡ ok c
+      → ((ls : List Line) (gs : List Segment) → next ls ≡ ok gs → All Says gs) → (ls : List Line) (gs : List Segment) → runsTo l past c next ls ≡ ok gs → All Says gs
+  runs-say l past c next e f [] gs w = apart cc
+  runs-say l past c next e f (x ∷ ls) gs w =
       let t = then-back (next ls) _ gs w in
       subst (All Says) (ok-one _ gs (t .rest)) (all-cons e (f ls (t .value) (t .first)))
 
@@ -76,8 +76,8 @@ module _ (text : List ℕ) (issue : ℕ) where
       → (ls : List Line) (gs : List Segment) → opened text issue next ls ≡ ok gs → All Says gs
   opened-say next f [] gs w = subst (All Says) (ok-one [] gs w) all-nil
   opened-say next f (l ∷ ls) gs w =
-      let t = then-back (placedAt text issue (l .start)) (λ p. runsTo (l .start) (pastPurge (p .at) l ls) (p .content) next (fromFirst isEnd (l ∷ ls))) gs w in
-      runs-say (l .start) (pastPurge (t .value .at) l ls) (t .value .content) next (placed-parts text issue (l .start) (t .value) (t .first) .content) f (fromFirst isEnd (l ∷ ls)) gs (t .rest)
+      let t = then-back (placedAt text issue (l .start)) (λ p. runsTo l (pastPurge (p .at) l ls) (p .content) next (fromFirst isEnd (l ∷ ls))) gs w in
+      runs-say l (pastPurge (t .value .at) l ls) (t .value .content) next (placed-parts text issue (l .start) (t .value) (t .first) .content) f (fromFirst isEnd (l ∷ ls)) gs (t .rest)
 
   ninth-say : (ls : List Line) (gs : List Segment) → ninth ls ≡ ok gs → All Says gs
   ninth-say [] gs w = subst (All Says) (ok-one [] gs w) all-nil

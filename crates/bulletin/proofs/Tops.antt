@@ -33,7 +33,7 @@ use Rattle.segments.specs.Search.{linesAfter}
 use Rattle.segments.specs.Searching.{linesOn}
 use Rattle.bulletin.specs.Bulletin as rule
 use Rattle.bulletin.specs.Bulletin.{isLength, line1, line2}
-use Rattle.bulletin.specs.Front.{textChecked, topOf, paperTopped}
+use Rattle.bulletin.specs.Front.{textChecked, secondOf, topOf, paperTopped}
 use Rattle.bulletin.specs.declared.Topped.{Topped}
 use Rattle.bulletin.specs.declared.Topped.the-variants as topped
 use Rattle.segments.proofs.Seeking.{body-of}
@@ -72,6 +72,40 @@ pub top-empty : (s : List ℕ) (year month : ℕ) (f : Lined) → paperLined f �
 unfolding topOf andThen
 top-empty s year month f e q r p = rw (p, lines-last s 0 (found-none s 0 f e q))
 
+-- line 2, which starts at `second`, and the issue
+module _ (s : List ℕ) (year month second : ℕ) (g : Heading) (fb : Lined) (eb : paperLined fb ≡ spanAt s second) where
+  pub second-short : second ≤ length s → fb ≡ lined.Nothing → (r : Topped) → r ≡ topped.Refused (refusalFor wrongIdentifier second)
+      → paperTopped s r ≡ secondOf s year month (linesOn s second) (paperHeading g)
+  unfolding secondOf andThen
+  second-short h z r e =
+      let k : length s ≤ second = found-none s second fb eb z in
+      let m : length s ≡ second = omega arith in
+      rw (e, lines-last s second k, m)
+
+  module _ (b : Span) (qb : fb ≡ lined.Line b) (name : List ℕ) (en : name ≡ part s second (b .end)) (t : Bool) (et : t ≡ isIdentifier name) where
+    second-line : line2 (length s) (linesOn s second) ≡ cond t (ok second) (no 4 second)
+    second-line = line2-is s second fb eb b qb name en ∙ rw (← et)
+
+    pub second-identifier : t ≡ false → (r : Topped) → r ≡ topped.Refused (refusalFor wrongIdentifier second)
+        → paperTopped s r ≡ secondOf s year month (linesOn s second) (paperHeading g)
+    unfolding secondOf andThen
+    second-identifier n r e = rw (e, second-line, n)
+
+    module _ (y : t ≡ true) (m : Moment) (em : paperMoment m ≡ minuteOf (record { year = year; month = month; stamp = g .stamp })) where
+      pub second-issue : m ≡ moment.Nothing → (r : Topped) → r ≡ topped.Refused (refusalFor wrongTime 0)
+          → paperTopped s r ≡ secondOf s year month (linesOn s second) (paperHeading g)
+      unfolding secondOf andThen
+      second-issue n r e = rw (e, second-line, y, ← em, n)
+
+      third-lines : linesAfter (linesOn s second) ≡ linesOn s (b .next)
+      third-lines = later-is s second ∙ ap (linesOn s) (sym (found-next s second fb eb b qb))
+
+      pub second-right : (issue : ℕ) → m ≡ moment.At issue
+          → paperTopped s (topped.Right (record { heading = g; identifier = second; issue = issue; third = b .next }))
+          ≡ secondOf s year month (linesOn s second) (paperHeading g)
+      unfolding secondOf andThen
+      second-right issue z = rw (second-line, y, ← em, z, third-lines)
+
 module _ (s : List ℕ) (year month : ℕ) (fa : Lined) (ea : paperLined fa ≡ spanAt s 0) (a : Span) (qa : fa ≡ lined.Line a) (line : List ℕ) (el : line ≡ part s 0 (a .end)) (h : Headed) (eh : paperHeaded h ≡ headingOf line) where
   heading-is : line1 (linesOf s) ≡ rule.headed (paperHeaded h)
   heading-is = line1-is s 0 fa ea a qa line el ∙ rw eh
@@ -82,38 +116,13 @@ module _ (s : List ℕ) (year month : ℕ) (fa : Lined) (ea : paperLined fa ≡ 
       let w : line1 (linesOf s) ≡ no 3 0 = heading-is ∙ ap (λ (x : Headed). rule.headed (paperHeaded x)) q in
       rw (e, w)
 
-  module _ (g : Heading) (q : h ≡ headed.Right g) (fb : Lined) (eb : paperLined fb ≡ spanAt s (a .next)) where
-    first-line : line1 (linesOf s) ≡ ok (paperHeading g)
-    first-line = heading-is ∙ ap (λ (x : Headed). rule.headed (paperHeaded x)) q
+  pub second-within : a .next ≤ length s
+  second-within = omega (arith, found-next s 0 fa ea a qa, next-within s 0 (omega arith))
 
-    next-lines : linesAfter (linesOf s) ≡ linesOn s (a .next)
-    next-lines = later-is s 0 ∙ ap (linesOn s) (sym (found-next s 0 fa ea a qa))
-
-    pub top-short : fb ≡ lined.Nothing → (r : Topped) → r ≡ topped.Refused (refusalFor wrongIdentifier (a .next)) → paperTopped s r ≡ topOf s year month
-    unfolding topOf andThen
-    top-short z r e =
-        let h : length s ≤ a .next = found-none s (a .next) fb eb z in
-        let m : length s ≡ a .next = omega (arith, found-next s 0 fa ea a qa, next-within s 0 (omega arith)) in
-        rw (e, first-line, next-lines, lines-last s (a .next) h, m)
-
-    module _ (b : Span) (qb : fb ≡ lined.Line b) (name : List ℕ) (en : name ≡ part s (a .next) (b .end)) (t : Bool) (et : t ≡ isIdentifier name) where
-      second-line : line2 (length s) (linesAfter (linesOf s)) ≡ cond t (ok (a .next)) (no 4 (a .next))
-      second-line = ap (line2 (length s)) next-lines ∙ line2-is s (a .next) fb eb b qb name en ∙ rw (← et)
-
-      pub top-identifier : t ≡ false → (r : Topped) → r ≡ topped.Refused (refusalFor wrongIdentifier (a .next)) → paperTopped s r ≡ topOf s year month
-      unfolding topOf andThen
-      top-identifier n r e = rw (e, first-line, second-line, n)
-
-      module _ (y : t ≡ true) (m : Moment) (em : paperMoment m ≡ minuteOf (record { year = year; month = month; stamp = g .stamp })) where
-        pub top-issue : m ≡ moment.Nothing → (r : Topped) → r ≡ topped.Refused (refusalFor wrongTime 0) → paperTopped s r ≡ topOf s year month
-        unfolding topOf andThen
-        top-issue n r e = rw (e, first-line, second-line, y, ← em, n)
-
-        third-lines : linesAfter (linesAfter (linesOf s)) ≡ linesOn s (b .next)
-        third-lines =
-            ap linesAfter next-lines ∙ later-is s (a .next) ∙ ap (linesOn s) (sym (found-next s (a .next) fb eb b qb))
-
-        pub top-right : (issue : ℕ) → m ≡ moment.At issue
-            → paperTopped s (topped.Right (record { heading = g; identifier = a .next; issue = issue; third = b .next })) ≡ topOf s year month
-        unfolding topOf andThen
-        top-right issue z = rw (first-line, second-line, y, ← em, z, third-lines)
+  pub top-second : (g : Heading) → h ≡ headed.Right g → (r : Topped) → paperTopped s r ≡ secondOf s year month (linesOn s (a .next)) (paperHeading g)
+      → paperTopped s r ≡ topOf s year month
+  unfolding topOf andThen
+  top-second g q r e =
+      let first-line : line1 (linesOf s) ≡ ok (paperHeading g) = heading-is ∙ ap (λ (x : Headed). rule.headed (paperHeaded x)) q in
+      let next-lines : linesAfter (linesOf s) ≡ linesOn s (a .next) = later-is s 0 ∙ ap (linesOn s) (sym (found-next s 0 fa ea a qa)) in
+      rw (first-line, next-lines) e

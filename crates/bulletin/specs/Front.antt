@@ -43,12 +43,15 @@ pub record Above : Type 0 where
   pub issue : ℕ
   pub below : List Line
 
-unfoldable pub topOf : List ℕ → ℕ → ℕ → Answer Above
-topOf text year month =
-    andThen (line1 (linesOf text)) λ heading.
-    andThen (line2 (length text) (linesAfter (linesOf text))) λ identifier.
+-- from line 2 on
+unfoldable pub secondOf : List ℕ → ℕ → ℕ → List Line → Heading → Answer Above
+secondOf text year month lines heading =
+    andThen (line2 (length text) lines) λ identifier.
     andThen (issued (minuteOf (record { year = year; month = month; stamp = heading .stamp }))) λ issue.
-    ok (record { heading = heading; identifier = identifier; issue = issue; below = linesAfter (linesAfter (linesOf text)) })
+    ok (record { heading = heading; identifier = identifier; issue = issue; below = linesAfter lines })
+
+unfoldable pub topOf : List ℕ → ℕ → ℕ → Answer Above
+topOf text year month = andThen (line1 (linesOf text)) (secondOf text year month (linesAfter (linesOf text)))
 
 abbrev pub paperTopped : List ℕ → Topped → Answer Above
 paperTopped text (topped.Right t) = ok (record { heading = paperHeading (t .heading); identifier = t .identifier; issue = t .issue; below = linesOn text (t .third) })

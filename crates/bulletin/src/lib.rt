@@ -24,7 +24,9 @@ ghost use Rattle.bulletin.specs.View.{viewOf, paperViewed, accepted, par
 ghost use Rattle.bulletin.specs.Kept.{KeepsPlaces};
 ghost use Rattle.segments.specs.Searching.{linesOn};
 ghost use Rattle.segments.specs.Seen.{Sized};
-ghost use Rattle.bulletin.specs.Front.{paperStormed, paperStart, textChecked, paperTopped, topOf};
+ghost use Rattle.bulletin.specs.Front.{paperStormed, paperStart, textChecked, paperTopped, secondOf, topOf};
+ghost use Rattle.heading.specs.Paper.{paperHeading};
+ghost use Prim.Native.Nat.{_≤_};
 ghost use Rattle.bulletin.specs.Below.{listedOf, belowOf, refusedFor, Answers};
 ghost use Rattle.heading.specs.Storm.{isOffice};
 ghost use Rattle.refusal.specs.Answer.{paperVerdict, refusalFor};
@@ -39,13 +41,10 @@ enum Stormed {
 fn read_storm(text: &[u8], from: usize) -> Stormed
     ensures { λ r. ⌜ paperStormed r ≡ officeStorm (fromFirst isOffice (upToFirst closes (linesOn (now (text .entry)) from))) ⌝ }
 {
-    let Found::At(at) = segments::first(text, from, Sought::OfficeOrClose) else {
+    let Found::Line(l) = segments::first(text, from, Sought::OfficeOrClose) else {
         return Stormed::Right(Storm::None);
     };
-    let Lined::Line(l) = lines::find_line(text, at) else {
-        return Stormed::Right(Storm::None);
-    };
-    let line = lines::part(text, at, l.end);
+    let line = lines::part(text, l.start, l.end);
     if segments::closes(line) {
         return Stormed::Right(Storm::None);
     }
@@ -124,18 +123,11 @@ fn top_refused(number: usize, place: usize) -> Topped
     Topped::Refused(Refusal { number, place })
 }
 
-// Lines 1 and 2 and the issue: 3, 4 and 5.
-fn read_top(text: &[u8], year: usize, month: usize) -> Topped
-    ensures { λ r. ⌜ paperTopped (now (text .entry)) r ≡ topOf (now (text .entry)) year month ⌝ }
+// Line 2, which starts at `second`, and the issue: 4 and 5.
+fn read_second(text: &[u8], heading: Heading, second: usize, year: usize, month: usize) -> Topped
+    requires { ⌜ second ≤ length (now text) ⌝ }
+    ensures { λ r. ⌜ paperTopped (now (text .entry)) r ≡ secondOf (now (text .entry)) year month (linesOn (now (text .entry)) second) (paperHeading heading) ⌝ }
 {
-    let Lined::Line(one) = lines::find_line(text, 0) else {
-        return top_refused(refusal::WRONG_HEADING, 0);
-    };
-    let line = lines::part(text, 0, one.end);
-    let Headed::Right(heading) = heading::read_heading(line) else {
-        return top_refused(refusal::WRONG_HEADING, 0);
-    };
-    let second = one.next;
     let Lined::Line(two) = lines::find_line(text, second) else {
         return top_refused(refusal::WRONG_IDENTIFIER, second);
     };
@@ -153,6 +145,20 @@ fn read_top(text: &[u8], year: usize, month: usize) -> Topped
         });
     }
     top_refused(refusal::WRONG_IDENTIFIER, second)
+}
+
+// Lines 1 and 2 and the issue: 3, 4 and 5.
+fn read_top(text: &[u8], year: usize, month: usize) -> Topped
+    ensures { λ r. ⌜ paperTopped (now (text .entry)) r ≡ topOf (now (text .entry)) year month ⌝ }
+{
+    let Lined::Line(one) = lines::find_line(text, 0) else {
+        return top_refused(refusal::WRONG_HEADING, 0);
+    };
+    let line = lines::part(text, 0, one.end);
+    let Headed::Right(heading) = heading::read_heading(line) else {
+        return top_refused(refusal::WRONG_HEADING, 0);
+    };
+    read_second(text, heading, one.next, year, month)
 }
 
 // What the lines above the first segment say.

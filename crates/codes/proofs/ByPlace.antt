@@ -12,8 +12,8 @@ use borrow.Author.Tests.{eqb-true}
 use Rattle.laws.proofs.Tests.{by, apart, and-left, and-right, or-no}
 use Rattle.lines.specs.Bytes.{Kind, lf, word, begins, exactly}
 use Rattle.lines.specs.Lines.{bodyOf}
-use Rattle.lines.specs.Spans.{endingOf, ends}
-use Rattle.lines.proofs.Ends.{firstPiece, body-at}
+use Rattle.lines.specs.Spans.{endAt}
+use Rattle.lines.proofs.Ends.{endSome, firstPiece, body-at}
 use Rattle.lines.proofs.Strings.{exactly-is}
 use Rattle.codes.specs.Elements.{dash}
 use Rattle.codes.specs.Places.{prefixOf, twoOf, threeOf}
@@ -32,11 +32,11 @@ goesOn [] = true
 goesOn (k ∷ ks) = cond (endsIt k) false (goesOn ks)
 
 -- ---- the first byte of a text
-body-cons : (b : ℕ) (t : List ℕ) → bodyOf (firstPiece lf (b ∷ t)) ≡ cond (ends (endingOf (b ∷ t))) [] (b ∷ bodyOf (firstPiece lf t))
+body-cons : (b : ℕ) (t : List ℕ) → bodyOf (firstPiece lf (b ∷ t)) ≡ cond (endSome (b ∷ t)) [] (b ∷ bodyOf (firstPiece lf t))
 body-cons b t = body-at (b ∷ t) 0 (omega arith)
 
-no-ending : (b : ℕ) (t : List ℕ) → eqb b 13 ≡ false → eqb b 10 ≡ false → endingOf (b ∷ t) ≡ none
-unfolding endingOf begins
+no-ending : (b : ℕ) (t : List ℕ) → eqb b 13 ≡ false → eqb b 10 ≡ false → endSome (b ∷ t) ≡ false
+unfolding endAt begins
 no-ending b t x y = simp (x, y)
 
 element-on : (b : ℕ) (t : List ℕ) → eqb b 45 ≡ false → eqb b 13 ≡ false → eqb b 10 ≡ false → elementOf (b ∷ t) ≡ b ∷ elementOf t
@@ -50,7 +50,7 @@ element-dash t = rw (body-cons 45 t, no-ending 45 t refl refl)
 -- an element is empty, or it is the first byte alone, or goes on behind it
 one-of : (P : List ℕ → Type 0) (b : ℕ) (t : List ℕ) → P [] → P (b ∷ []) → P (b ∷ elementOf t) → P (elementOf (b ∷ t))
 unfolding firstPiece
-one-of P b t n o c = rw (body-cons b t) (by (ends (endingOf (b ∷ t))) (λ e. rw e n) (λ e. rw e (by (eqb b 45) (λ d. rw d o) (λ d. rw d c))))
+one-of P b t n o c = rw (body-cons b t) (by (endSome (b ∷ t)) (λ e. rw e n) (λ e. rw e (by (eqb b 45) (λ d. rw d o) (λ d. rw d c))))
 
 front : (P : List ℕ → Type 0) (b : ℕ) (t : List ℕ) → P [] → ((r : List ℕ) → P (b ∷ r)) → P (elementOf (b ∷ t))
 front P b t n c = one-of P b t n (c []) (c (elementOf t))

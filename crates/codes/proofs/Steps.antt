@@ -11,11 +11,12 @@ use lib.Dec.{eqb, leb}
 use borrow.Author.Tests.{eq-eqb, ne-eqb, le-leb, lt-leb, eqb-true, eqb-false}
 use Rattle.laws.proofs.Tests.{by, by-order, apart, either-way}
 use Rattle.lines.specs.Bytes.{lf, word, begins, exactly}
-use Rattle.lines.specs.Lines.{pieces, bodyOf, prefixForm}
-use Rattle.lines.specs.Spans.{part, endingOf, paperEnding, ends}
-use Rattle.lines.specs.declared.Ending.{Ending}
-use Rattle.lines.specs.declared.Ending.the-variants as ending
-use Rattle.lines.proofs.Ends.{no-end, past-end, ending-length, ending-none, end-bytes, firstPiece, pieces-first, nextOf, next-last, next-here, next-within, next-on, lines-step, lines-last, InLine, in-start, in-on, body-at}
+use Rattle.lines.specs.Lines.{pieces, endBytes, bodyOf, prefixForm}
+use Rattle.lines.specs.Spans.{part, endAt}
+use Rattle.lines.specs.Lines.{endsLine}
+use Rattle.lines.specs.declared.End.{End}
+use Rattle.lines.proofs.Scans.{ended-here, not-ended}
+use Rattle.lines.proofs.Ends.{no-end, past-end, endSome, none-size, end-bytes, firstPiece, pieces-first, nextOf, next-last, next-here, next-within, next-on, lines-step, lines-last, InLine, in-start, in-on, body-at}
 use Rattle.codes.specs.Places.{prefixOf, threeOf}
 use Rattle.codes.specs.Elements.{singleForm, rangeForm, purgeForm, isRange, numbers, short, said, Element, dash, null, elementsAt, elementsOfBody, elementsOfLines, elementsFrom}
 use Rattle.codes.specs.Elements as elements
@@ -23,7 +24,7 @@ use Rattle.codes.specs.Block.{insertCovered, Read, block, wrongAt, ended
 use Rattle.codes.specs.Serving.{Low}
 use Rattle.codes.proofs.Bounds.{Below, covers-low}
 use Rattle.codes.proofs.Turns.{read-covers, read-purge, read-wrong}
-use Rattle.codes.specs.Cursor.{paperLast, nextPlace, purged, stepOver, afterEnd, pastEnd, lastOfLine, stepAt, firstBytes, elementAt, coveredFor, coveredAt, Usual, saidOfPurge, wholeAt, purgeAt}
+use Rattle.codes.specs.Cursor.{paperLast, nextPlace, purged, stepOver, pastEnd, lastOfLine, stepAt, firstBytes, elementAt, coveredFor, coveredAt, Usual, saidOfPurge, wholeAt, purgeAt}
 use Rattle.codes.specs.declared.Last.the-variants.{Prefix}
 use Rattle.codes.specs.declared.Covered.{Covered}
 use Rattle.codes.specs.declared.Cursor.{Cursor}
@@ -66,34 +67,33 @@ body-last : (s : List ℕ) (i : ℕ) → length s ≤ i → bodyAt s i ≡ []
 unfolding bodyOf firstPiece
 body-last s i h = rw (drop-of-length-le s h)
 
-body-end : (s : List ℕ) (i k : ℕ) → endingOf (drop i s) ≡ some k → bodyAt s i ≡ []
-body-end s i k e = body-at s i (end-bytes s i k e) ∙ rw e
+body-end : (s : List ℕ) (i : ℕ) → endSome (drop i s) ≡ true → bodyAt s i ≡ []
+body-end s i e = body-at s i (end-bytes s i e) ∙ rw e
 
-body-on : (s : List ℕ) (i : ℕ) → i < length s → endingOf (drop i s) ≡ none → bodyAt s i ≡ getD s i 0 ∷ bodyAt s (i + 1)
+body-on : (s : List ℕ) (i : ℕ) → i < length s → endSome (drop i s) ≡ false → bodyAt s i ≡ getD s i 0 ∷ bodyAt s (i + 1)
 body-on s i h e = body-at s i h ∙ rw e
 
 behind-past : (s : List ℕ) (after : ℕ) → length s ≤ after → Behind s after
 behind-past s after h =
-    none-left s after (body-last s after h) (rw (← past-end s after h, le-leb (length s) after h)) (next-last s after h ∙ rw (← past-end s after h))
+    none-left s after (body-last s after h) (rw (← past-end s after h, le-leb (length s) after h)) (next-last s after h ∙ rw (← past-end s after h) (omega arith))
 
-behind-end : (s : List ℕ) (after k : ℕ) → endingOf (drop after s) ≡ some k → Behind s after
-behind-end s after k e = none-left s after (body-end s after k e) (rw e) (next-here s after k e ∙ rw e)
+behind-end : (s : List ℕ) (after : ℕ) → endSome (drop after s) ≡ true → Behind s after
+behind-end s after e = none-left s after (body-end s after e) (rw e) (next-here s after e)
 
-behind-on : (s : List ℕ) (after : ℕ) → after < length s → endingOf (drop after s) ≡ none → Behind s after
+-- where none stands there the place stays
+stays : (s : List ℕ) (after : ℕ) → endSome (drop after s) ≡ false → pastEnd s after ≡ after
+stays s after e = omega (arith, none-size (drop after s) e)
+
+behind-on : (s : List ℕ) (after : ℕ) → after < length s → endSome (drop after s) ≡ false → Behind s after
 behind-on s after h e =
     let b : bodyAt s after ≡ getD s after 0 ∷ bodyAt s (after + 1) = body-on s after h e in
     record {
       last = rw (b, pieces-first dash (getD s after 0) (bodyAt s (after + 1)), e, lt-leb (length s) after h);
-      rest = rw e (sym (elements-step s after h ∙ rw b));
+      rest = rw (stays s after e) (sym (elements-step s after h ∙ rw b));
     }
 
--- a line's end stands there, or none does
-by-end : {P : Type 0} (o : Option ℕ) → ((k : ℕ) → o ≡ some k → P) → (o ≡ none → P) → P
-by-end none f g = g refl
-by-end (some k) f g = f k refl
-
 pub behind : (s : List ℕ) (after : ℕ) → Behind s after
-behind s after = by-order after (length s) (λ h. by-end (endingOf (drop after s)) (behind-end s after) (behind-on s after h)) (behind-past s after)
+behind s after = by-order after (length s) (λ h. by (endSome (drop after s)) (behind-end s after) (behind-on s after h)) (behind-past s after)
 
 -- ---- the first element of a line, and what is left of it
 first-of-body : (at after : ℕ) (B P R : List ℕ) → B ≡ P ++ R → firstPiece dash B ≡ P → at + length P ≡ after
@@ -149,12 +149,12 @@ module _ (s : List ℕ) (at i : ℕ) (a : at < length s) (v : InElement s at i) 
 
   module _ (h : i < length s) where
     -- the line's end
-    stops-here : (k : ℕ) → endingOf (drop i s) ≡ some k → Runs s at i
+    stops-here : endSome (drop i s) ≡ true → Runs s at i
     unfolding firstPiece
-    stops-here k e =
-        runs-at s at i a (v .line .low) (v .high) (v .line .goes) (v .body) (v .first ∙ rw (body-end s i k e) (append-nil (part s at i)))
+    stops-here e =
+        runs-at s at i a (v .line .low) (v .high) (v .line .goes) (v .body) (v .first ∙ rw (body-end s i e) (append-nil (part s at i)))
 
-    module _ (e : endingOf (drop i s) ≡ none) where
+    module _ (e : endSome (drop i s) ≡ false) where
       more-body : bodyAt s at ≡ part s at (i + 1) ++ bodyAt s (i + 1)
       more-body =
           v .body ∙ ap (λ (x : List ℕ). part s at i ++ x) (body-on s i h e) ∙ sym (append-assoc (part s at i) (getD s i 0 ∷ []) (bodyAt s (i + 1)))
@@ -176,33 +176,33 @@ module _ (s : List ℕ) (at i : ℕ) (a : at < length s) (v : InElement s at i) 
     element-dash : getD s i 0 ≡ 45 → Runs s at (i + 1)
     unfolding firstPiece
     element-dash d =
-        let z : endingOf (drop i s) ≡ none = sym (no-end s i (getD s i 0) refl (omega (arith, d))) in
+        let z : endSome (drop i s) ≡ false = sym (ap endsLine (no-end s i (getD s i 0) refl (omega (arith, d)))) in
         runs-at s at (i + 1) a (omega (arith, v .line .low)) (omega arith) (v .line .goes ∙ next-on s i h z) (more-body z)
         (v .first ∙ ap (λ (x : List ℕ). part s at i ++ x) one ∙ sym (part-more s at i (v .line .low) h))
       where
         one : elementFrom s i ≡ getD s i 0 ∷ []
-        one = rw (body-on s i h (sym (no-end s i (getD s i 0) refl (omega (arith, d)))), eq-eqb (getD s i 0) 45 d)
+        one = rw (body-on s i h (sym (ap endsLine (no-end s i (getD s i 0) refl (omega (arith, d))))), eq-eqb (getD s i 0) 45 d)
 
 -- ---- a step
 pub past-within : (s : List ℕ) (after : ℕ) → after ≤ length s → pastEnd s after ≤ length s
 past-within s after h =
-    by-end (endingOf (drop after s)) (λ k e. rw e (omega (arith, next-here s after k e, next-within s after h))) (λ e. rw e h)
+    by (endSome (drop after s)) (λ e. omega (arith, next-here s after e, next-within s after h)) (λ e. omega (arith, none-size (drop after s) e))
 
 past-more : (s : List ℕ) (after : ℕ) → after ≤ pastEnd s after
-past-more s after = by-end (endingOf (drop after s)) (λ k e. rw e (omega arith)) (λ e. rw e (omega arith))
+past-more s after = omega arith
 
-module _ (s : List ℕ) (after : ℕ) (f : Ending) (e : paperEnding f ≡ endingOf (drop after s)) where
-  pub past-length : (k : ℕ) → f ≡ ending.Length k → after + k ≡ pastEnd s after
-  past-length k q = sym (ap (afterEnd after) (ending-length (endingOf (drop after s)) f e k q))
+module _ (s : List ℕ) (after : ℕ) (f : End) (ef : f ≡ endAt (drop after s)) (t : Bool) (et : t ≡ endsLine f) where
+  pub past-length : (k : ℕ) → k ≡ length (endBytes f) → after + k ≡ pastEnd s after
+  past-length k ek = rw (ek, ef)
 
-  pub past-none : f ≡ ending.Nothing → after ≡ pastEnd s after
-  past-none q = sym (ap (afterEnd after) (ending-none (endingOf (drop after s)) f e q))
+  pub past-none : t ≡ false → after ≡ pastEnd s after
+  past-none n = sym (stays s after (not-ended s after f ef t et n))
 
-  pub last-ended : (k : ℕ) → f ≡ ending.Length k → true ≡ lastOfLine s after
-  last-ended k q = rw (ending-length (endingOf (drop after s)) f e k q)
+  pub last-ended : t ≡ true → true ≡ lastOfLine s after
+  last-ended y = rw (ended-here s after f ef t et y)
 
-  pub last-none : f ≡ ending.Nothing → leb (length s) after ≡ lastOfLine s after
-  last-none q = rw (ending-none (endingOf (drop after s)) f e q)
+  pub last-none : t ≡ false → leb (length s) after ≡ lastOfLine s after
+  last-none n = rw (not-ended s after f ef t et n)
 
 first-place : (at stop : ℕ) (B : List ℕ) (es : List Element) → nextPlace stop (elementsOfBody at B ++ es) ≡ at
 unfolding elementsAt
@@ -223,7 +223,7 @@ runs-from zero s at i a v h = (i, element-last s at i a v (omega arith))
 runs-from (suc k) s at i a v h =
     by-order i (length s)
     (λ l. by (eqb (getD s i 0) 45) (λ d. (i + 1, element-dash s at i a v l (eqb-true _ 45 d)))
-    λ d. by-end (endingOf (drop i s)) (λ k e. (i, stops-here s at i a v l k e))
+    λ d. by (endSome (drop i s)) (λ e. (i, stops-here s at i a v l e))
     λ e. runs-from k s at (i + 1) a (goes-on s at i a v l e (eqb-false _ 45 d)) (omega arith))
     λ l. (i, element-last s at i a v l)
 
@@ -330,11 +330,11 @@ readThen s got (Step.Wrong at) = wrongAt at
 then-over : (s got : List ℕ) (last : Option ℕ) (e : Element) (next : ℕ) (x : elements.Said) → said last (e .bytes) ≡ x
     → readFrom (length s) last got (e ∷ elementsFrom next (drop next s)) ≡ readThen s got (stepOver e next x)
 then-over s got last e next (elements.covers p n m) q = read-covers (length s) last got e _ p n m q
-then-over s got last e next (elements.purge t) q = read-purge (length s) last got e _ t q ∙ ends (e .last)
+then-over s got last e next (elements.purge t) q = read-purge (length s) last got e _ t q ∙ endsLine (e .last)
   where
-    ends : (b : Bool) → ended b (block got t (e .at)) (e .at + length (e .bytes)) ≡ readThen s got (purged b t (e .at) (e .at + length (e .bytes)))
-    ends true = refl
-    ends false = refl
+    endsLine : (b : Bool) → ended b (block got t (e .at)) (e .at + length (e .bytes)) ≡ readThen s got (purged b t (e .at) (e .at + length (e .bytes)))
+    endsLine true = refl
+    endsLine false = refl
 then-over s got last e next elements.wrong q = read-wrong (length s) last got e _ q
 
 pub read-step : (s got : List ℕ) (c : Cursor) → readFrom (length s) (paperLast (c .last)) got (elementsFrom (c .at) (drop (c .at) s)) ≡ readThen s got (stepAt s c)

@@ -7,7 +7,9 @@ use mathlib.Core.Option.{Option, none, some}
 use lib.ListN.{length, drop}
 use lib.Dec.{leb}
 use Rattle.lines.specs.Bytes.{exactly}
-use Rattle.lines.specs.Spans.{endingOf, ends}
+use Rattle.lines.specs.Lines.{endBytes}
+use Rattle.lines.specs.Spans.{endAt}
+use Rattle.lines.specs.Lines.{endsLine}
 use Rattle.calendar.specs.declared.Stamp.{Stamp}
 use Rattle.codes.specs.Elements.{Element, elementsFrom, purgeForm, stampOf, time, said}
 use Rattle.codes.specs.Elements as elements
@@ -45,16 +47,12 @@ stepFrom stop last (e ∷ es) = stepOver e (nextPlace stop es) (said last (e .by
 
 -- ---- behind an element that runs up to a place
 -- "A line of the block ends after a `-`": the next element stands behind the line's end, if one stands there
-abbrev pub afterEnd : ℕ → Option ℕ → ℕ
-afterEnd after none = after
-afterEnd after (some k) = after + k
-
 abbrev pub pastEnd : List ℕ → ℕ → ℕ
-pastEnd text after = afterEnd after (endingOf (drop after text))
+pastEnd text after = after + length (endBytes (endAt (drop after text)))
 
 -- the line, or the text, ends there
 abbrev pub lastOfLine : List ℕ → ℕ → Bool
-lastOfLine text after = ends (endingOf (drop after text)) || leb (length text) after
+lastOfLine text after = endsLine (endAt (drop after text)) || leb (length text) after
 
 unfoldable pub stepAt : List ℕ → Cursor → Step
 stepAt text c = stepFrom (length text) (paperLast (c .last)) (elementsFrom (c .at) (drop (c .at) text))

@@ -6,6 +6,8 @@ use mathlib.Core.Option.{Option, none, some}
 use lib.ListN.{length}
 use lib.Dec.{leb, eqb}
 use Rattle.lines.specs.Bytes.{bytes}
+use Rattle.lines.specs.Lines.{endBytes}
+use Rattle.lines.specs.declared.End.{End}
 use Rattle.calendar.specs.declared.Stamp.{Stamp}
 use Rattle.codes.specs.Places.{twoBytes, threeBytes, prefixBytes}
 
@@ -92,14 +94,15 @@ wrapFrom n (e ∷ es) = cond (fits n e) (onLine e (wrapFrom (n + length e) es)) 
 abbrev pub wrapped : List (List ℕ) → List (List (List ℕ))
 wrapped es = wrapFrom 0 es .line ∷ wrapFrom 0 es .lines
 
--- ---- bytes: "Lines end CR CR LF."
+-- ---- bytes
+-- "Lines end CR CR LF": those of the write call. An edited bulletin "ends each new block's lines as that block's first line in the text ended" (document 02, R-5), so that the line end is an argument.
 unfoldable pub inOrder : List (List ℕ) → List ℕ
 inOrder [] = []
 inOrder (e ∷ es) = e ++ inOrder es
 
-unfoldable pub rendered : List (List (List ℕ)) → List ℕ
-rendered [] = []
-rendered (l ∷ ls) = inOrder l ++ (bytes "\r\r\n" ++ rendered ls)
+unfoldable pub rendered : End → List (List (List ℕ)) → List ℕ
+rendered end [] = []
+rendered end (l ∷ ls) = inOrder l ++ (endBytes end ++ rendered end ls)
 
-unfoldable pub written : List ℕ → Stamp → List ℕ
-written ps s = rendered (wrapped (blockElements ps s))
+unfoldable pub written : End → List ℕ → Stamp → List ℕ
+written end ps s = rendered end (wrapped (blockElements ps s))

@@ -10,7 +10,6 @@ ghost use Rattle.codes.specs.Places.{prefixOf, twoOf, threeOf};
 ghost use Rattle.codes.specs.Elements.{singleForm, rangeForm, purgeForm, numbers, said};
 ghost use Rattle.codes.specs.Cursor.{paperLast, elementAt, coveredAt, Usual, purgeAt, pastEnd, lastOfLine, stepAt};
 use calendar::Stamp;
-use lines::Ending;
 
 // The last prefix of this block.
 pub enum Last {
@@ -250,17 +249,21 @@ fn read_usual(text: &[u8], at: usize, p: usize) -> Covered
 fn past_end(text: &[u8], after: usize) -> usize
     ensures { λ r. ⌜ r ≡ pastEnd (now (text .entry)) after ⌝ }
 {
-    let Ending::Length(k) = lines::find_ending(text, after) else {
-        return after;
-    };
-    after + k
+    let end = lines::find_ending(text, after);
+    let ended = lines::is_ended(end);
+    if ended {
+        return after + lines::end_length(end);
+    }
+    after
 }
 
 // Whether an element that runs up to `after` is the last of its line.
 fn is_last(text: &[u8], after: usize) -> bool
     ensures { λ r. ⌜ r ≡ lastOfLine (now (text .entry)) after ⌝ }
 {
-    if let Ending::Length(_) = lines::find_ending(text, after) {
+    let end = lines::find_ending(text, after);
+    let ended = lines::is_ended(end);
+    if ended {
         return true;
     }
     text.len() <= after

@@ -13,12 +13,13 @@ use mir.Val.{Fits}
 use Rattle.laws.proofs.Tests.{impossible}
 use Rattle.lines.specs.Spans.{part}
 use Rattle.codes.specs.Written.{inOrder}
+use Rattle.lines.specs.declared.End.{End}
 use Rattle.segments.specs.Segments as rule
 use Rattle.segments.specs.Seen.{seen, segmentsHeld, Sized}
 use Rattle.segments.specs.declared.Segment.{Segment}
 use Rattle.segments.specs.declared.Segments.{Segments}
-use Rattle.forms.specs.Edited.{editedFrom}
-use Rattle.forms.specs.Forms.{cutInto, sumOf, keptLength, withForms}
+use Rattle.forms.specs.Edited.{editedFrom, endsIn}
+use Rattle.forms.specs.Forms.{endsOf, cutInto, sumOf, keptLength, withForms}
 
 -- ---- the text behind its last block
 pub part-rest : (text : List ℕ) (at : ℕ) → part text at (length text) ≡ drop at text
@@ -123,3 +124,8 @@ module _ (text : List ℕ) (held : List Segment) (count i at kept : ℕ) (v : Co
   counting-done h b q =
       let e : keptLength at text (drop i (take count held)) ≡ length (drop at text) = ap (keptLength at text) (none-held held count i few h) in
       rw q (omega (arith, v .same, e, ap (λ (x : List ℕ). length x) (part-rest text at)))
+
+-- how the first lines ended, by the segments as the reader answers them
+pub ends-seen : (gs : List rule.Segment) → endsOf (map seen gs) ≡ endsIn gs
+ends-seen [] = refl
+ends-seen (g ∷ gs) = ap (λ (es : List End). g .ended ∷ es) (ends-seen gs)

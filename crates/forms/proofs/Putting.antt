@@ -49,23 +49,23 @@ module _ (text : List ℕ) (held : List Segment) (count : ℕ) (forms each out�
     few-each : count ≤ length each
     few-each = omega (arith, v .cuttable .sized .few, v .cuttable .wide)
 
+    size : ℕ
+    size = getD each i 0
+
+    sums : i < count → sumOf (drop i (take count each)) ≡ size + sumOf (drop (i + 1) (take count each))
+    unfolding sumOf size
+    sums h = ap sumOf (next-held each count i few-each 0 h)
+
+    pub putting-fits : i < count → Fits w64 (form + getD each i 0)
+    unfolding size
+    putting-fits h = omega (arith, v .low, sums h, v .cuttable .short)
+
     module _ (h : i < count) (z : Segment) where
       kept : List ℕ
       kept = part text at (getD held i z .start)
 
-      size : ℕ
-      size = getD each i 0
-
       tail : List ℕ
       tail = withForms (getD held i z .block) text (drop (i + 1) (take count held)) (cutInto (drop (i + 1) (take count each)) (drop (form + size) forms))
-
-      sums : sumOf (drop i (take count each)) ≡ size + sumOf (drop (i + 1) (take count each))
-      unfolding sumOf size
-      sums = ap sumOf (next-held each count i few-each 0 h)
-
-      pub putting-fits : Fits w64 (form + getD each i 0)
-      unfolding size
-      putting-fits = omega (arith, v .low, sums, v .cuttable .short)
 
       block : List ℕ
       block = part forms form (form + size)
@@ -119,7 +119,7 @@ module _ (text : List ℕ) (held : List Segment) (count : ℕ) (forms each out�
                     ∙ append-assoc d k (b ++ tail)
                     ∙ ap₂ (λ (x y : List ℕ). d ++ (x ++ (y ++ tail))) is form-is
                     ∙ next;
-                low = omega (arith, v .low, sums);
+                low = omega (arith, v .low, sums h);
               }
 
     module _ (h : count ≤ i) where

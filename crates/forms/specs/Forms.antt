@@ -6,6 +6,7 @@ use mathlib.Core.List.{List, [], _∷_, _++_, map}
 use lib.ListN.{length, take, drop}
 use Rattle.refusal.specs.Answer.{ok}
 use Rattle.lines.specs.Spans.{part}
+use Rattle.lines.specs.declared.End.{End}
 use Rattle.codes.specs.Written.{inOrder}
 use Rattle.writing.specs.Write.{writtenBlock}
 use Rattle.writing.specs.Pen.{writtenBlockMost}
@@ -35,9 +36,9 @@ pub record RoomFor (n : ℕ) (forms : List ℕ) : Type 0 where
   pub most : length forms ≤ formsRoom
 
 -- the form of segment i, counted from 0, went to the front of an output
-pub record Formed (l : List ℕ) (i : ℕ) (before after : List ℕ) (r : ℕ) : Type 0 where
+pub record Formed (end : End) (l : List ℕ) (i : ℕ) (before after : List ℕ) (r : ℕ) : Type 0 where
   pub form : List ℕ
-  pub given : writtenBlock (contentOf (blockOf (suc i) l) .places) (contentOf (blockOf (suc i) l) .purge) ≡ ok form
+  pub given : writtenBlock end (contentOf (blockOf (suc i) l) .places) (contentOf (blockOf (suc i) l) .purge) ≡ ok form
   pub size : r ≡ length form
   pub most : r ≤ writtenBlockMost
   pub output : after ≡ form ++ drop (length form) before
@@ -51,10 +52,14 @@ unfoldable pub sumOf : List ℕ → ℕ
 sumOf [] = 0
 sumOf (n ∷ ns) = n + sumOf ns
 
--- all forms of a book stand one behind the other, and these are their lengths
-pub record Laid (l forms : List ℕ) (r : Sizes) : Type 0 where
+-- how the first lines of these segments' blocks ended
+abbrev pub endsOf : List Segment → List End
+endsOf gs = map (λ (g : Segment). g .ended) gs
+
+-- all forms of a book, with these ends, stand one behind the other, and these are their lengths
+pub record Laid (ends : List End) (l forms : List ℕ) (r : Sizes) : Type 0 where
   pub blocks : List (List ℕ)
-  pub given : writtenForms (bookOf l .segments) ≡ ok blocks
+  pub given : writtenForms ends (bookOf l .segments) ≡ ok blocks
   pub bytes : take (r .total) forms ≡ inOrder blocks
   pub sizes : take (length blocks) (r .each) ≡ map (λ (b : List ℕ). length b) blocks
   pub total : r .total ≡ length (inOrder blocks)

@@ -6,7 +6,8 @@ ghost use Rattle.segments.specs.Seen.{segmentsHeld, Sized};
 ghost use Rattle.writing.specs.Pen.{Stored, writtenBlockMost};
 ghost use Rattle.writing.specs.Write.{outputOf};
 ghost use Rattle.refusal.specs.Answer.{ok};
-ghost use Rattle.forms.specs.Forms.{SoundBook, Formed, RoomFor, Laid, keptLength, filledIn, Cuttable};
+ghost use Rattle.forms.specs.Forms.{SoundBook, Formed, RoomFor, endsOf, Laid, keptLength, filledIn, Cuttable};
+use lines::End;
 use segments::Segments;
 use writing::Written;
 
@@ -17,33 +18,38 @@ pub struct Sizes {
 }
 
 // Writes the form of segment i, counted from 0, of a sound book to the front of out, and answers its length.
-fn write_form(book: &[u8], i: usize, out: &mut [u8]) -> usize
+fn write_form(book: &[u8], i: usize, end: End, out: &mut [u8]) -> usize
     requires { ⌜ SoundBook (now book) ⌝ }
     requires { ⌜ i < getD (now book) 4 0 ⌝ }
     requires { ⌜ writtenBlockMost ≤ length (now out) ⌝ }
-    ensures { λ r. ⌜ Formed (now (book .entry)) i (now (out .entry)) (now (out .exit)) r ⌝ }
+    ensures { λ r. ⌜ Formed end (now (book .entry)) i (now (out .entry)) (now (out .exit)) r ⌝ }
 {
     let held = blocks::load(book, i + 1);
     let places = held.places;
     let count = held.count;
     let minute = held.purge as usize;
-    match writing::write_block(out, &places[0..count], minute) {
+    match writing::write_ended(out, &places[0..count], minute, end) {
         Written::Length(n) => n,
         Written::Refused(_) => 0,
     }
 }
 
-// Writes the forms of all n segments of a sound book, one behind the other.
-pub fn write_forms(book: &[u8], n: usize, forms: &mut [u8]) -> Sizes
+// Writes the forms of all segments of a sound book, one behind the other. The lines of each end as the first line of the segment in the text, of which there are as many.
+pub fn write_forms(book: &[u8], segments: Segments, forms: &mut [u8]) -> Sizes
     requires { ⌜ SoundBook (now book) ⌝ }
-    requires { ⌜ (n ≡ getD (now book) 4 0) × RoomFor n (now forms) ⌝ }
-    ensures { λ r. ⌜ Laid (now (book .entry)) (now (forms .exit)) r ⌝ }
+    requires { ⌜ (segments .count ≡ getD (now book) 4 0) × Sized segments ⌝ }
+    requires { ⌜ RoomFor (segments .count) (now forms) ⌝ }
+    ensures { λ r. ⌜ Laid (endsOf (segmentsHeld segments)) (now (book .entry)) (now (forms .exit)) r ⌝ }
 {
+    let held = segments.held;
+    let n = segments.count;
     let mut each: [usize; 8] = [0; 8];
     let mut total: usize = 0;
     let mut i: usize = 0;
     while i < n {
-        let size = write_form(book, i, &mut forms[total..]);
+        let segment = held[i];
+        let end = segment.ended;
+        let size = write_form(book, i, end, &mut forms[total..]);
         each[i] = size;
         total += size;
         i += 1;
@@ -101,8 +107,8 @@ pub fn put_edited(text: &[u8], segments: Segments, forms: &[u8], sizes: Sizes, o
     let mut form: usize = 0;
     let mut i: usize = 0;
     while i < count {
-        let g = held[i];
         let next = form + each[i];
+        let g = held[i];
         let kept = lines::part(text, at, g.start);
         pos = put(&mut *out, pos, kept);
         let block = lines::part(forms, form, next);

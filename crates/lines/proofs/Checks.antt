@@ -17,17 +17,18 @@ use Rattle.refusal.specs.Answer.{refusalFor, paperVerdict}
 use Rattle.refusal.specs.declared.Verdict.{Verdict}
 use Rattle.refusal.specs.declared.Verdict.the-variants.{Accepted, Refused}
 use Rattle.lines.specs.Bytes.{between, word, begins}
-use Rattle.lines.specs.Lines.{pieces, bodyOf, linesAt, linesFrom, linesOf}
+use Rattle.lines.specs.Lines.{pieces, endBytes, bodyOf, linesAt, linesFrom, linesOf}
 use Rattle.lines.specs.Check.{allowed, badByte, longLine, lastEnds, unended, least, textFault, checkText}
-use Rattle.lines.specs.Spans.{endingOf, paperEnding, ends}
-use Rattle.lines.specs.declared.Ending.{Ending}
-use Rattle.lines.specs.declared.Ending.the-variants as ending
+use Rattle.lines.specs.Spans.{endAt}
+use Rattle.lines.specs.Lines.{endsLine}
+use Rattle.lines.specs.declared.End.{End}
+use Rattle.lines.specs.declared.End.the-variants.{Lf, CrLf, CrCrLf, Nothing}
 use Rattle.lines.specs.Printables.{printables}
-use Rattle.lines.proofs.Ends.{no-lf, ending-length, ending-none, end-case, end-bytes, endOf, nextOf, firstPiece, lines-step, lines-last, end-here, next-here, end-last, next-last, next-within, next-more, InLine, in-start, in-on}
-use Rattle.lines.proofs.Scans.{over, printable-is, stops}
+use Rattle.lines.proofs.Ends.{no-lf, endSome, endSize, end-case, end-bytes, endOf, nextOf, firstPiece, lines-step, lines-last, end-here, next-here, end-last, next-last, next-within, next-more, InLine, in-start, in-on}
+use Rattle.lines.proofs.Scans.{over, printable-is, stops, ended-here, not-ended}
 
 -- ---- "Allowed": what is printable, or stands at the front of a line's end
-allowed-tests : (p l c x y : Bool) → (p || l || c && (x || y)) ≡ (p || ends (cond (l && true) (some 1) (cond (c && x) (some 2) (cond (c && y) (some 3) none))))
+allowed-tests : (p l c x y : Bool) → (p || l || c && (x || y)) ≡ (p || endsLine (cond (l && true) Lf (cond (c && x) CrLf (cond (c && y) CrCrLf Nothing))))
 allowed-tests true l c x y = refl
 allowed-tests false true c x y = refl
 allowed-tests false false false x y = refl
@@ -35,8 +36,8 @@ allowed-tests false false true true y = refl
 allowed-tests false false true false true = refl
 allowed-tests false false true false false = refl
 
-allowed-is : (b : ℕ) (s : List ℕ) → allowed b s ≡ (between 32 126 b || ends (endingOf (b ∷ s)))
-unfolding endingOf begins
+allowed-is : (b : ℕ) (s : List ℕ) → allowed b s ≡ (between 32 126 b || endSome (b ∷ s))
+unfolding endAt begins
 allowed-is b s = allowed-tests (between 32 126 b) (eqb b 10) (eqb b 13) (begins (word "\n") s) (begins (word "\r\n") s)
 
 -- ---- "the last line must end", byte after byte: a line would start before s where `new`
@@ -97,7 +98,7 @@ unfolding unended
 unended-from s = by (lastEnds s) (λ p. rw p tt) (λ p. rw p (le-refl (length s)))
 
 -- ---- at a byte
-bad-at : (s : List ℕ) (i : ℕ) → i < length s → badByte i (drop i s) ≡ cond (between 32 126 (getD s i 0) || ends (endingOf (drop i s))) (badByte (i + 1) (drop (i + 1) s)) (some i)
+bad-at : (s : List ℕ) (i : ℕ) → i < length s → badByte i (drop i s) ≡ cond (between 32 126 (getD s i 0) || endSome (drop i s)) (badByte (i + 1) (drop (i + 1) s)) (some i)
 unfolding badByte
 bad-at s i h = rw (add-one, drop-cons s i 0 h, allowed-is (getD s i 0) (drop (suc i) s))
 
@@ -106,15 +107,15 @@ unfolding lastFrom
 last-at s i new h = rw (add-one, drop-cons s i 0 h)
 
 -- ---- at a line's end
-bad-end : (at : ℕ) (u : List ℕ) (k : ℕ) → endingOf u ≡ some k → badByte at u ≡ badByte (at + k) (drop k u)
+bad-end : (at : ℕ) (u : List ℕ) → endSome u ≡ true → badByte at u ≡ badByte (at + endSize u) (drop (endSize u) u)
 unfolding badByte begins
 bad-end at =
-    end-case (λ t k. badByte at t ≡ badByte (at + k) (drop k t)) (λ t. rw (add-one at))
+    end-case (λ t e. badByte at t ≡ badByte (at + length (endBytes e)) (drop (length (endBytes e)) t)) (λ t. rw (add-one at))
     (λ t. let e : at + 2 ≡ suc (suc at) = omega arith in rw e) (λ t. let e : at + 3 ≡ suc (suc (suc at)) = omega arith in rw e)
 
-last-end : (new : Bool) (u : List ℕ) (k : ℕ) → endingOf u ≡ some k → lastFrom new u ≡ lastFrom true (drop k u)
+last-end : (new : Bool) (u : List ℕ) → endSome u ≡ true → lastFrom new u ≡ lastFrom true (drop (endSize u) u)
 unfolding lastFrom
-last-end new = end-case (λ t k. lastFrom new t ≡ lastFrom true (drop k t)) (λ t. refl) (λ t. refl) (λ t. refl)
+last-end new = end-case (λ t e. lastFrom new t ≡ lastFrom true (drop (length (endBytes e)) t)) (λ t. refl) (λ t. refl) (λ t. refl)
 
 -- ---- at a line
 module _ (s : List ℕ) (start : ℕ) (h : start < length s) where
@@ -166,7 +167,7 @@ checks-start s = record { line = in-start s 0; high = omega arith; bad = refl; l
 checks-on : (s : List ℕ) (start i : ℕ) → i < length s → between 32 126 (getD s i 0) ≡ true → Checks s start i → Checks s start (i + 1)
 checks-on s start i h y v =
     let low : start ≤ i = v .line .low in
-    let none-here : endingOf (drop i s) ≡ none = printable-is s i y in
+    let none-here : endSome (drop i s) ≡ false = printable-is s i y in
     record {
       line = in-on s start i (v .line) h none-here;
       high = omega arith;
@@ -210,12 +211,12 @@ module _ (s : List ℕ) (start : ℕ) (v : Checks s start start) (e : ℕ) (is :
       ∙ ap (least (badByte 0 s)) (least-left (start + 132) (unended s) end-later)
       ∙ least-right (start + 132) (badByte 0 s) bad-later)
 
-  module _ (short : e - start ≤ 132) (f : Ending) (ef : paperEnding f ≡ endingOf (drop e s)) where
+  module _ (short : e - start ≤ 132) (f : End) (ef : f ≡ endAt (drop e s)) (t : Bool) (et : t ≡ endsLine f) where
     -- a byte that is not allowed
-    bad-here : f ≡ ending.Nothing → e < length s → textFault s ≡ some e
+    bad-here : t ≡ false → e < length s → textFault s ≡ some e
     unfolding textFault
     bad-here z h =
-        let here : badByte 0 s ≡ some e = there .bad ∙ bad-at s e h ∙ rw (stops s start e is h, ending-none (endingOf (drop e s)) f ef z) in
+        let here : badByte 0 s ≡ some e = there .bad ∙ bad-at s e h ∙ rw (stops s start e is h, not-ended s e f ef t et z) in
         ap (λ (o : Option ℕ). least o (later s)) here ∙ least-left e (later s) (later-from s e start (omega arith) (omega arith) (there .long))
 
     -- the text's end, within a line
@@ -227,25 +228,32 @@ module _ (s : List ℕ) (start : ℕ) (v : Checks s start start) (e : ℕ) (is :
         let no-long : longLine (linesOf s) ≡ none = there .long ∙ long-on s start l e (there .line .goes ∙ next-last s e h) (omega (arith, there .line .ends, end-last s e h)) ∙ long-past s e h in
         rw (bad-last s start e there h, no-long, fin-last s start e there h, ne-eqb start e (omega arith), all)
 
-    pub checks-wrong : start < length s → f ≡ ending.Nothing → (r : Verdict) → r ≡ Refused (refusalFor wrongText e) → paperVerdict r ≡ checkText s
+    pub checks-wrong : start < length s → t ≡ false → (r : Verdict) → r ≡ Refused (refusalFor wrongText e) → paperVerdict r ≡ checkText s
     checks-wrong l z = fault-is s e (by-order e (length s) (bad-here z) (open-here l))
 
     -- a line's end
-    pub checks-line : (k : ℕ) → f ≡ ending.Length k → Checks s (e + k) (e + k)
-    checks-line k q =
-        let ends : endingOf (drop e s) ≡ some k = ending-length (endingOf (drop e s)) f ef k q in
-        let h : e < length s = end-bytes s e k ends in
-        let here : nextOf s e ≡ e + k = next-here s e k ends in
-        record {
-          line = in-start s (e + k);
-          high = omega (arith, next-within s e (omega arith));
-          bad = there .bad ∙ bad-end e (drop e s) k ends ∙ rw drop-drop;
-          long = there .long ∙ long-on s start (omega (arith, there .line .low)) (e + k) (there .line .goes ∙ here) (omega (arith, there .line .ends, end-here s e k ends));
-          fin = there .fin ∙ last-end _ (drop e s) k ends ∙ rw (drop-drop, eq-eqb (e + k) (e + k) refl);
-        }
+    module _ (y : t ≡ true) (k : ℕ) (ek : k ≡ length (endBytes f)) where
+      some-end : endSome (drop e s) ≡ true
+      some-end = ended-here s e f ef t et y
 
-    pub checks-less : (k : ℕ) → f ≡ ending.Length k → length s - (e + k) < length s - start
-    checks-less k q =
-        let ends : endingOf (drop e s) ≡ some k = ending-length (endingOf (drop e s)) f ef k q in
-        let h : e < length s = end-bytes s e k ends in
-        omega (arith, next-here s e k ends, next-more s e h)
+      size-is : k ≡ endSize (drop e s)
+      size-is = ek ∙ ap (λ (x : End). length (endBytes x)) ef
+
+      past : nextOf s e ≡ e + k
+      past = omega (arith, next-here s e some-end, size-is)
+
+      pub checks-line : Checks s (e + k) (e + k)
+      checks-line =
+          let h : e < length s = end-bytes s e some-end in
+          record {
+            line = in-start s (e + k);
+            high = omega (arith, past, next-within s e (omega arith));
+            bad = there .bad ∙ rw (size-is) (bad-end e (drop e s) some-end ∙ rw drop-drop);
+            long = there .long ∙ long-on s start (omega (arith, there .line .low)) (e + k) (there .line .goes ∙ past) (omega (arith, there .line .ends, end-here s e some-end));
+            fin = there .fin ∙ rw size-is (last-end _ (drop e s) some-end ∙ rw (drop-drop, eq-eqb (e + endSize (drop e s)) (e + endSize (drop e s)) refl));
+          }
+
+      pub checks-less : length s - (e + k) < length s - start
+      checks-less =
+          let h : e < length s = end-bytes s e some-end in
+          omega (arith, past, next-more s e h)

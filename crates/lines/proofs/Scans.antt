@@ -4,23 +4,25 @@ use native.Mathlib.Numerals.{add-one}
 use native.Mathlib.Omega.{arith}
 use mathlib.Core.Path.{_≡_, refl, sym, ap, _∙_}
 use mathlib.Core.List.{List, [], _∷_}
-use mathlib.Core.Bool.{Bool, true, false, cond}
+use mathlib.Core.Bool.{Bool, true, false, cond, _&&_}
 use mathlib.Core.Option.{none, some}
 use mir.Syntax.{w64}
 use mir.Val.{Fits}
 use lib.ListN.{length, getD, drop, length-drop, List·getD-eq-default}
 use lib.Seq.{drop-cons, drop-drop}
-use lib.Dec.{leb}
-use borrow.Author.Tests.{leb-true}
+use lib.Dec.{leb, ltb}
+use borrow.Author.Tests.{leb-true, ltb-true, lt-ltb}
 use Rattle.laws.proofs.Tests.{by, by-order, either-way, impossible, apart, and-left}
 use Rattle.lines.specs.Bytes.{between}
-use Rattle.lines.specs.Spans.{spanAt, paperLined, endingOf, paperEnding}
-use Rattle.lines.specs.Printables.{printables, Passed}
+use Rattle.lines.specs.Lines.{endBytes}
+use Rattle.lines.specs.Spans.{spanAt, paperLined, endAt}
+use Rattle.lines.specs.Lines.{endsLine}
+use Rattle.lines.specs.Printables.{printables, Passed, Ambled}
 use Rattle.lines.specs.declared.Lined.{Lined}
 use Rattle.lines.specs.declared.Lined.the-variants as lined
-use Rattle.lines.specs.declared.Ending.{Ending}
-use Rattle.lines.specs.declared.Ending.the-variants as ending
-use Rattle.lines.proofs.Ends.{no-end, end-bytes, next-here, next-within, ending-length, ending-none, span-none, InLine, in-start, in-on, in-here, in-last}
+use Rattle.lines.specs.declared.End.{End}
+use Rattle.lines.specs.declared.End.the-variants.{Nothing}
+use Rattle.lines.proofs.Ends.{no-end, endSome, end-bytes, next-here, next-within, span-none, InLine, in-start, in-on, in-here, in-last}
 
 -- ---- at the front
 most : (s : List ℕ) → printables s ≤ length s
@@ -115,6 +117,34 @@ module _ (s : List ℕ) (at i : ℕ) (v : Passed s at i) where
   pub passed-end : length s ≤ i → i ≡ at + printables (drop at s)
   passed-end h = omega (arith, v .same, rest s i)
 
+-- ---- at most four of them, one by one
+pub near-byte : (i n m : ℕ) → (ltb i n && ltb i m) ≡ true → i < n
+near-byte i n m h = ltb-true i n (and-left (ltb i n) (ltb i m) h)
+
+pub near-less : (i n m : ℕ) → (ltb i n && ltb i m) ≡ true → n - (i + 1) < n - i
+near-less i n m h = omega (arith, near-byte i n m h)
+
+module _ (s : List ℕ) (at i : ℕ) (v : Passed s at i) where
+  pub ambled-stop : (t : Bool) → t ≡ between 32 126 (getD s i 0) → t ≡ false → Ambled s at i
+  ambled-stop t e n = record { passed = v; all = λ _. passed-stop s at i v t e n }
+
+  pub ambled-all : (ltb i (length s) && ltb i (at + 4)) ≡ false → Ambled s at i
+  ambled-all h =
+      record {
+        passed = v;
+        all = λ l. by-order i (length s) (λ g. let z : true ≡ false = rw (lt-ltb i (length s) g, lt-ltb i (at + 4) l) at h in apart cc) (passed-end s at i v);
+      }
+
+module _ (s : List ℕ) (at near : ℕ) (v : Ambled s at near) where
+  pub ambled-short : near < at + 4 → near ≡ at + printables (drop at s)
+  ambled-short = v .all
+
+  pub ambled-within : near ≤ length s
+  ambled-within = v .passed .within
+
+  pub ambled-on : (r : ℕ) → Passed s near r → Passed s at r
+  ambled-on r p = record { within = p .within; same = p .same ∙ v .passed .same }
+
 -- ---- behind the printable bytes: what holds before them, and goes on over each
 pub over : (s : List ℕ) (P : ℕ → Type 0) → ((j : ℕ) → j < length s → between 32 126 (getD s j 0) ≡ true → P j → P (j + 1))
     → (n i : ℕ) → n ≤ printables (drop i s) → P i → P (i + n)
@@ -129,8 +159,8 @@ over s P f (suc n) i h p =
     λ l. impossible (omega (arith, rest s i))
 
 -- what is printable ends no line
-pub printable-is : (s : List ℕ) (i : ℕ) → between 32 126 (getD s i 0) ≡ true → endingOf (drop i s) ≡ none
-printable-is s i y = sym (no-end s i (getD s i 0) refl (omega (arith, leb-true 32 (getD s i 0) (and-left (leb 32 (getD s i 0)) (leb (getD s i 0) 126) y))))
+pub printable-is : (s : List ℕ) (i : ℕ) → between 32 126 (getD s i 0) ≡ true → endSome (drop i s) ≡ false
+printable-is s i y = sym (ap endsLine (no-end s i (getD s i 0) refl (omega (arith, leb-true 32 (getD s i 0) (and-left (leb 32 (getD s i 0)) (leb (getD s i 0) 126) y)))))
 
 module _ (s : List ℕ) (i e : ℕ) (is : e ≡ i + printables (drop i s)) where
   pub stops : e < length s → between 32 126 (getD s e 0) ≡ false
@@ -143,11 +173,18 @@ module _ (s : List ℕ) (i e : ℕ) (is : e ≡ i + printables (drop i s)) where
   in-over at v = rw is (over s (InLine s at) (λ j l p v. in-on s at j v l (printable-is s j p)) (printables (drop i s)) i (omega arith) v)
 
 -- a line's end is a part of the text
-pub end-fits : (s : List ℕ) (i : ℕ) → length s < 2 ^ 64 → (f : Ending) → paperEnding f ≡ endingOf (drop i s) → (k : ℕ) → f ≡ ending.Length k → Fits w64 (i + k)
-end-fits s i h f e k q =
-    let z : endingOf (drop i s) ≡ some k = ending-length (endingOf (drop i s)) f e k q in
-    let l : i < length s = end-bytes s i k z in
-    omega (arith, next-here s i k z, next-within s i (omega arith))
+module _ (s : List ℕ) (i : ℕ) (f : End) (ef : f ≡ endAt (drop i s)) where
+  pub ended-here : (t : Bool) → t ≡ endsLine f → t ≡ true → endSome (drop i s) ≡ true
+  ended-here t et y = ap endsLine (sym ef) ∙ sym et ∙ y
+
+  pub not-ended : (t : Bool) → t ≡ endsLine f → t ≡ false → endSome (drop i s) ≡ false
+  not-ended t et n = ap endsLine (sym ef) ∙ sym et ∙ n
+
+  pub end-fits : length s < 2 ^ 64 → (t : Bool) → t ≡ endsLine f → t ≡ true → (k : ℕ) → k ≡ length (endBytes f) → Fits w64 (i + k)
+  end-fits h t et y k ek =
+      let z : endSome (drop i s) ≡ true = ended-here t et y in
+      let l : i < length s = end-bytes s i z in
+      omega (arith, ek ∙ ap (λ (e : End). length (endBytes e)) ef, next-here s i z, next-within s i (omega arith))
 
 -- ---- a search for a line's end, over printable bytes at once: i stands in the line that starts at `at`
 pub record Inside (s : List ℕ) (at i : ℕ) : Type 0 where
@@ -162,13 +199,16 @@ pub inside-start : (s : List ℕ) (at : ℕ) → at < length s → Inside s at a
 inside-start s at h = record { there = h; within = omega arith; line = in-start s at }
 
 module _ (s : List ℕ) (at i : ℕ) (v : Inside s at i) (e : ℕ) (is : e ≡ i + printables (drop i s)) where
-  pub inside-last : length s ≤ e → (r : Lined) → r ≡ lined.Line (record { start = at; end = e; next = e }) → paperLined r ≡ spanAt s at
+  pub inside-last : length s ≤ e → (r : Lined) → r ≡ lined.Line (record { start = at; end = e; next = e; ended = Nothing }) → paperLined r ≡ spanAt s at
   inside-last h r q = ap paperLined q ∙ in-last s at e (in-over s i e is at (v .line)) (v .there) h
 
-  module _ (h : e < length s) (f : Ending) (ef : paperEnding f ≡ endingOf (drop e s)) where
-    pub inside-here : (k : ℕ) → f ≡ ending.Length k → (r : Lined) → r ≡ lined.Line (record { start = at; end = e; next = e + k }) → paperLined r ≡ spanAt s at
-    inside-here k z r q = ap paperLined q ∙ in-here s at e (in-over s i e is at (v .line)) k (ending-length (endingOf (drop e s)) f ef k z)
+  module _ (h : e < length s) (f : End) (ef : f ≡ endAt (drop e s)) (t : Bool) (et : t ≡ endsLine f) where
+    pub inside-here : t ≡ true → (k : ℕ) → k ≡ length (endBytes f) → (r : Lined) → r ≡ lined.Line (record { start = at; end = e; next = e + k; ended = f })
+        → paperLined r ≡ spanAt s at
+    inside-here y k ek r q =
+        ap paperLined q
+        ∙ rw (ek, ef) (in-here s at e (in-over s i e is at (v .line)) (ended-here s e f ef t et y))
 
     -- a byte that is not printable and ends no line
-    pub inside-next : f ≡ ending.Nothing → Inside s at (e + 1)
-    inside-next z = record { there = v .there; within = omega arith; line = in-on s at e (in-over s i e is at (v .line)) h (ending-none (endingOf (drop e s)) f ef z) }
+    pub inside-next : t ≡ false → Inside s at (e + 1)
+    inside-next n = record { there = v .there; within = omega arith; line = in-on s at e (in-over s i e is at (v .line)) h (not-ended s e f ef t et n) }

@@ -8,7 +8,7 @@ use mathlib.Core.Bool.{Bool, true, false, _&&_, _||_, and-true, and-assoc}
 use lib.ListN.{length, getD, take, drop, length-drop, drop-of-length-le}
 use lib.Seq.{drop-cons, take-all, take-nil}
 use lib.Dec.{eqb}
-use borrow.Author.Tests.{ne-eqb}
+use borrow.Author.Tests.{eq-eqb, ne-eqb}
 use Rattle.lines.specs.Bytes.{capital, digit, oneOf, word, literally, begins}
 use Rattle.lines.specs.Lines.{blank, isEnd, opens, prefixForm, threeDigits}
 use Rattle.lines.specs.Spans.{part}
@@ -35,9 +35,13 @@ module _ (line : List ℕ) (i : ℕ) (v : Blanks line i) where
   blanks-done h = sym (v .same ∙ rw (drop-of-length-le line h))
 
 -- ---- `$$`
-pub end-by : (line : List ℕ) (t : Bool) → t ≡ begins (literally (36 ∷ 36 ∷ [])) line → (eqb (length line) 2 && t) ≡ isEnd line
+pub end-here : (line : List ℕ) (t : Bool) → t ≡ begins (literally (36 ∷ 36 ∷ [])) line → length line ≡ 2 → t ≡ isEnd line
 unfolding isEnd
-end-by line t e = sym (exactly-is (word "$$") line ∙ rw e)
+end-here line t e h = e ∙ sym (exactly-is (word "$$") line ∙ rw (eq-eqb (length line) 2 h))
+
+pub end-other : (line : List ℕ) → (length line ≡ 2 → ⊥) → false ≡ isEnd line
+unfolding isEnd
+end-other line h = sym (exactly-is (word "$$") line ∙ rw (ne-eqb (length line) 2 h))
 
 -- ---- opening a block
 opens-is : (s : List ℕ)

@@ -9,13 +9,13 @@ use Rattle.lines.specs.Lines.{Line, linesFrom}
 use Rattle.lines.specs.declared.Span.{Span}
 use Rattle.lines.specs.declared.Lined.{Lined}
 use Rattle.lines.specs.declared.Lined.the-variants as lined
-use Rattle.lines.specs.declared.Ending.{Ending}
-use Rattle.lines.specs.declared.Ending.the-variants as ending
+use Rattle.lines.specs.declared.End.{End}
+use Rattle.lines.specs.declared.End.the-variants.{Lf, CrLf, CrCrLf, Nothing}
 
 -- the places of the first of these lines, if there is one
 abbrev pub spanOf : List Line → Option Span
 spanOf [] = none
-spanOf (l ∷ ls) = some (record { start = l .start; end = l .start + length (l .body); next = l .next })
+spanOf (l ∷ ls) = some (record { start = l .start; end = l .start + length (l .body); next = l .next; ended = l .ended })
 
 -- the line of the text that starts at `at`, if one starts there
 unfoldable pub spanAt : List ℕ → ℕ → Option Span
@@ -29,15 +29,6 @@ paperLined lined.Nothing = none
 abbrev pub part : List ℕ → ℕ → ℕ → List ℕ
 part text from to = take (to - from) (drop from text)
 
--- how many bytes the line's end at the front of s has, if one stands there: LF, CR LF or CR CR LF
-unfoldable pub endingOf : List ℕ → Option ℕ
-endingOf s = cond (begins (word "\n") s) (some 1) (cond (begins (word "\r\n") s) (some 2) (cond (begins (word "\r\r\n") s) (some 3) none))
-
-abbrev pub paperEnding : Ending → Option ℕ
-paperEnding (ending.Length k) = some k
-paperEnding ending.Nothing = none
-
--- whether a line's end stands there
-abbrev pub ends : Option ℕ → Bool
-ends none = false
-ends (some k) = true
+-- the line's end at the front of s: LF, CR LF, CR CR LF, or none
+unfoldable pub endAt : List ℕ → End
+endAt s = cond (begins (word "\n") s) Lf (cond (begins (word "\r\n") s) CrLf (cond (begins (word "\r\r\n") s) CrCrLf Nothing))

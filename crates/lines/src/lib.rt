@@ -6,18 +6,20 @@ ghost use mathlib.Core.Bool.{cond};
 ghost use Rattle.refusal.specs.Numbers.{wrongText};
 ghost use Rattle.refusal.specs.Answer.{refusalFor, paperVerdict};
 ghost use Rattle.lines.specs.Bytes.{between, capital, digit, literally, begins};
-ghost use Rattle.lines.specs.Lines.{blank, isEnd, opens};
+ghost use Rattle.lines.specs.Lines.{endBytes, blank, isEnd, opens};
 ghost use Rattle.lines.specs.Check.{checkText};
-ghost use Rattle.lines.specs.Spans.{spanAt, paperLined, part, endingOf, paperEnding};
-ghost use Rattle.lines.specs.Printables.{printables, Passed};
+ghost use Rattle.lines.specs.Spans.{spanAt, paperLined, part, endAt};
+ghost use Rattle.lines.specs.Lines.{endsLine};
+ghost use Rattle.lines.specs.Printables.{printables, Passed, Ambled};
 use refusal::Refusal;
 use refusal::Verdict;
 
-// A line's places: its bytes are start..end, and the next line starts at next.
+// A line's places: its bytes are start..end, and the next line starts at next; and how it ended.
 pub struct Span {
     pub start: usize,
     pub end: usize,
     pub next: usize,
+    pub ended: End,
 }
 
 // The line that was asked for, or none.
@@ -26,9 +28,11 @@ pub enum Lined {
     Nothing,
 }
 
-// How many bytes a line's end has, or that none stands there.
-pub enum Ending {
-    Length(usize),
+// How a line ended; Nothing is that of a last line that does not end.
+pub enum End {
+    Lf,
+    CrLf,
+    CrCrLf,
     Nothing,
 }
 
@@ -74,30 +78,55 @@ pub fn part(text: &[u8], from: usize, to: usize) -> &[u8]
     &text[from..to]
 }
 
-// How many bytes the line's end at i has, if one stands there: LF, CR LF or CR CR LF.
-pub fn find_ending(text: &[u8], i: usize) -> Ending
-    ensures { λ r. ⌜ paperEnding r ≡ endingOf (drop i (now (text .entry))) ⌝ }
+// The line's end that stands at i: LF, CR LF, CR CR LF, or none.
+pub fn find_ending(text: &[u8], i: usize) -> End
+    ensures { λ r. ⌜ r ≡ endAt (drop i (now (text .entry))) ⌝ }
 {
     let a = byte(text, i);
     // Most bytes of a text end no line.
     if 13 < a {
-        return Ending::Nothing;
+        return End::Nothing;
     }
     if text.len() <= i {
-        return Ending::Nothing;
+        return End::Nothing;
     }
     let b = byte(text, i + 1);
     let c = byte(text, i + 2);
     if a == 10 {
-        return Ending::Length(1);
+        return End::Lf;
     }
     if (a == 13) & (b == 10) {
-        return Ending::Length(2);
+        return End::CrLf;
     }
     if (a == 13) & (b == 13) & (c == 10) {
-        return Ending::Length(3);
+        return End::CrCrLf;
     }
-    Ending::Nothing
+    End::Nothing
+}
+
+// How many bytes it has.
+pub fn end_length(end: End) -> usize
+    ensures is { λ r. ⌜ r ≡ length (endBytes end) ⌝ }
+    ensures most { λ r. ⌜ r ≤ 3 ⌝ }
+{
+    match end {
+        End::Lf => 1,
+        End::CrLf => 2,
+        End::CrCrLf => 3,
+        End::Nothing => 0,
+    }
+}
+
+// Whether it is one of the three.
+pub fn is_ended(end: End) -> bool
+    ensures { λ r. ⌜ r ≡ endsLine end ⌝ }
+{
+    match end {
+        End::Lf => true,
+        End::CrLf => true,
+        End::CrCrLf => true,
+        End::Nothing => false,
+    }
 }
 
 fn lesser(a: u8, b: u8) -> u8
@@ -146,6 +175,24 @@ fn stride(text: &[u8], at: usize) -> usize
     i
 }
 
+// Moves on from `at` over at most four printable bytes, one by one: short lines end there, and sixty-four bytes would be looked at for nothing.
+fn amble(text: &[u8], at: usize) -> usize
+    requires { ⌜ at ≤ length (now text) ⌝ }
+    ensures { λ r. ⌜ Ambled (now (text .entry)) at r ⌝ }
+{
+    let n = text.len();
+    let mut i = at;
+    while (i < n) & (i < at + 4) {
+        let good = printable(text[i]);
+        if good {
+            i += 1;
+        } else {
+            return i;
+        }
+    }
+    i
+}
+
 // The first place from `at` on whose byte is not printable, or the text's end.
 fn printable_end(text: &[u8], at: usize) -> usize
     requires { ⌜ at ≤ length (now text) ⌝ }
@@ -153,7 +200,11 @@ fn printable_end(text: &[u8], at: usize) -> usize
     ensures most { λ r. ⌜ r ≤ length (now (text .entry)) ⌝ }
 {
     let n = text.len();
-    let mut i = stride(text, at);
+    let near = amble(text, at);
+    if near < at + 4 {
+        return near;
+    }
+    let mut i = stride(text, near);
     // At most the text's last sixty-three bytes are left to look at, one by one, and else a byte that is not printable.
     while i < n {
         let good = printable(text[i]);
@@ -166,10 +217,15 @@ fn printable_end(text: &[u8], at: usize) -> usize
     i
 }
 
-fn line(start: usize, end: usize, next: usize) -> Lined
-    ensures { λ r. ⌜ r ≡ Lined.Line (record { start = start; end = end; next = next }) ⌝ }
+fn line(start: usize, end: usize, next: usize, ended: End) -> Lined
+    ensures { λ r. ⌜ r ≡ Lined.Line (record { start = start; end = end; next = next; ended = ended }) ⌝ }
 {
-    Lined::Line(Span { start, end, next })
+    Lined::Line(Span {
+        start,
+        end,
+        next,
+        ended,
+    })
 }
 
 // The line that starts at `at`, if one starts there.
@@ -184,10 +240,12 @@ pub fn find_line(text: &[u8], at: usize) -> Lined
         let end = printable_end(text, from);
         // The last line may be without an end: the next one would start where its bytes end.
         if text.len() <= end {
-            return line(at, end, end);
+            return line(at, end, end, End::Nothing);
         }
-        if let Ending::Length(k) = find_ending(text, end) {
-            return line(at, end, end + k);
+        let ended = find_ending(text, end);
+        let found = is_ended(ended);
+        if found {
+            return line(at, end, end + end_length(ended), ended);
         }
         // A byte that is not printable and ends no line: the line goes on behind it.
         from = end + 1;
@@ -228,9 +286,10 @@ pub fn begins_with(line: &[u8], word: &[u8]) -> bool
 pub fn is_end(line: &[u8]) -> bool
     ensures { λ r. ⌜ r ≡ isEnd (now (line .entry)) ⌝ }
 {
-    let n = line.len();
-    let begins = begins_with(line, b"$$");
-    (n == 2) & begins
+    if line.len() == 2 {
+        return begins_with(line, b"$$");
+    }
+    false
 }
 
 // Whether the line opens a place code block.
@@ -270,10 +329,13 @@ pub fn check_text(text: &[u8]) -> Verdict
         if 132 < end - start {
             return wrong(start + 132);
         }
-        let Ending::Length(k) = find_ending(text, end) else {
+        let ended = find_ending(text, end);
+        let found = is_ended(ended);
+        if found {
+            start = end + end_length(ended);
+        } else {
             return wrong(end);
-        };
-        start = end + k;
+        }
     }
     Verdict::Accepted
 }

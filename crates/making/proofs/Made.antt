@@ -50,10 +50,10 @@ module _ (text : List ℕ) (issue : ℕ) where
   one-more n g gs s t = record { few = suc-le-suc (t .few); each = all-cons s (t .each) }
 
   module _ (n : ℕ) (next : List Line → Answer (List Segment)) (h : Next n next) where
-    ended-read : (start past : ℕ) (c : Content) → Opens text start → contentAt text issue start ≡ ok c
-        → (ls : List Line) → From text ls → (gs : List Segment) → runsTo start past c next ls ≡ ok gs → Standing (suc n) gs
-    ended-read start past c o e [] f gs g = apart cc
-    ended-read start past c o e (x ∷ ls) f gs g =
+    ended-read : (l : Line) (past : ℕ) (c : Content) → Opens text (l .start) → contentAt text issue (l .start) ≡ ok c
+        → (ls : List Line) → From text ls → (gs : List Segment) → runsTo l past c next ls ≡ ok gs → Standing (suc n) gs
+    ended-read l past c o e [] f gs g = apart cc
+    ended-read l past c o e (x ∷ ls) f gs g =
         let t = then-back (next ls) _ gs g in
         subst (Standing (suc n)) (ok-one _ gs (t .rest))
         (one-more n _ (t .value) (record { opening = o; says = e }) (h ls (from-step text x ls f .rest) (t .value) (t .first)))
@@ -62,9 +62,9 @@ module _ (text : List ℕ) (issue : ℕ) where
         → (gs : List Segment) → opened text issue next ls ≡ ok gs → Standing (suc n) gs
     opened-read [] f p gs e = none-stand (suc n) gs e
     opened-read (l ∷ ls) f p gs e =
-        let t = then-back (placedAt text issue (l .start)) (λ p. runsTo (l .start) (pastPurge (p .at) l ls) (p .content) next (fromFirst isEnd (l ∷ ls))) gs e in
+        let t = then-back (placedAt text issue (l .start)) (λ p. runsTo l (pastPurge (p .at) l ls) (p .content) next (fromFirst isEnd (l ∷ ls))) gs e in
         let o : Opens text (l .start) = record { line = l; lines = ls; are = from-step text l ls f .here; passes = p l ls refl } in
-        ended-read (l .start) (pastPurge (t .value .at) l ls) (t .value .content) o (placed-parts text issue (l .start) (t .value) (t .first) .content) (fromFirst isEnd (l ∷ ls)) (from-first text isEnd (l ∷ ls) f) gs (t .rest)
+        ended-read l (pastPurge (t .value .at) l ls) (t .value .content) o (placed-parts text issue (l .start) (t .value) (t .first) .content) (fromFirst isEnd (l ∷ ls)) (from-first text isEnd (l ∷ ls) f) gs (t .rest)
 
   ninth-read : (ls : List Line) (gs : List Segment) → ninth ls ≡ ok gs → Standing 0 gs
   ninth-read [] gs e = none-stand 0 gs e

@@ -12,12 +12,14 @@ use Rattle.laws.proofs.Lists.{all-map}
 use Rattle.laws.specs.Lists.{All, all-nil, all-cons}
 use Rattle.refusal.specs.Numbers.{Reason, wrongTime}
 use Rattle.refusal.specs.Answer.{ok, must}
+use Rattle.lines.specs.declared.End.{End}
 use Rattle.months.specs.Months.{yearOf, monthOfYear, issueMonths, startOf, monthOf}
 use Rattle.calendar.specs.Calendar.{isIssueMonth, minuteOf, stampAfter, dateIn, dateOf}
 use Rattle.calendar.specs.declared.Date.{Date}
 use Rattle.months.proofs.Laws.{start-mono, month-some}
 use Rattle.calendar.proofs.Laws.{minute-date, issue-true}
 use Rattle.roundtrip.specs.Round.{ReadsBack}
+use Rattle.lines.specs.Lines.{endsLine}
 use Rattle.roundtrip.proofs.WriteRead.{read-writable, read-again}
 use Rattle.blocks.specs.Content.{isContent}
 use Rattle.keeping.proofs.Keeping.{new-sound}
@@ -79,11 +81,11 @@ stands-fine : (text : List ℕ) (issue : ℕ) (g : Segment) → Stands text issu
 unfolding isContent
 stands-fine text issue g s = let w = read-writable text issue (g .start) (g .content) (s .opening) (s .says) in rw (w .set) (w .purge)
 
--- and its written block reads back to it
-pub made-again : (text : List ℕ) (year month : ℕ) (b : Bulletin) → readBulletin text year month ≡ ok b
-    → All (λ (g : Segment). ReadsBack (b .issue) (g .content)) (b .segments)
-made-again text year month b e =
-    all-map (λ g s. read-again text (b .issue) (g .start) (g .content) (s .opening) (s .says)) (segmented text year month b e .standing .each)
+-- and its written block reads back to it, whichever of the three ends its lines have
+pub made-again : (end : End) → endsLine end ≡ true → (text : List ℕ) (year month : ℕ) (b : Bulletin) → readBulletin text year month ≡ ok b
+    → All (λ (g : Segment). ReadsBack end (b .issue) (g .content)) (b .segments)
+made-again end so text year month b e =
+    all-map (λ g s. read-again end so text (b .issue) (g .start) (g .content) (s .opening) (s .says)) (segmented text year month b e .standing .each)
 
 -- every content of a bulletin that is read is sound under its issue
 pub made-fine : (text : List ℕ) (year month : ℕ) (b : Bulletin) → readBulletin text year month ≡ ok b

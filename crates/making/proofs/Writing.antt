@@ -10,6 +10,8 @@ use borrow.Author.Tests.{ne-eqb, le-leb}
 use Rattle.laws.proofs.Tests.{apart}
 use Rattle.refusal.specs.Numbers.{wrongLength, notSound, noSuchSegment}
 use Rattle.refusal.specs.Answer.{Answer, ok, no, refused, refusalFor, andThen}
+use Rattle.lines.specs.declared.End.{End}
+use Rattle.lines.specs.declared.End.the-variants.{CrCrLf}
 use Rattle.codes.specs.Places.{capacity}
 use Rattle.codes.specs.Block.{Content}
 use Rattle.writing.specs.Write.{writtenBlock, fitting, writeRule, lengthOf, outputOf, paperWritten, Writes}
@@ -17,6 +19,8 @@ use Rattle.writing.specs.Pen.{writtenBlockMost}
 use Rattle.writing.proofs.Bound.{block-most}
 use Rattle.writing.specs.declared.Written.{Written}
 use Rattle.writing.specs.declared.Written.the-variants as written
+use Rattle.roundtrip.specs.Round.{ReadsBack}
+use Rattle.lines.specs.Lines.{endsLine}
 use Rattle.roundtrip.proofs.WriteRead.{write-read}
 use Rattle.blocks.specs.Block.{bookLength, blockOf, Bytes}
 use Rattle.blocks.specs.Content.{contentOf}
@@ -45,17 +49,23 @@ ruled l before after s r a e f g = record { answer = f ∙ ap lengthOf (sym e); 
 pub record SegmentBlock (b : Book) (s : ℕ) (c : Content) : Type 0 where
   pub block : List ℕ
   pub is : segmentBlock b s ≡ some block
-  pub given : writtenBlock (c .places) (c .purge) ≡ ok block
+  pub given : writtenBlock CrCrLf (c .places) (c .purge) ≡ ok block
 
--- In a sound book each segment that exists has its block: the writer's 24 is never met,
+-- In a sound book each segment that exists has a written block that reads back to it, whichever of the three ends its lines have,
+pub segment-back : (end : End) → endsLine end ≡ true → (l : List ℕ) → Bytes l → isSound l ≡ true → (s : ℕ) (c : Content) → at (bookOf l .segments) s ≡ some c
+    → ReadsBack end (bookOf l .issue) c
+segment-back end so l y e s c q =
+    let f = all-stands (bookOf l .segments) s c (sound-book l y e .contents) q .is in
+    write-read end so _ c (fine-places _ c f) (fine-purge _ c f)
+
+-- and so the write call's block: the writer's 24 is never met;
 pub segment-block : (l : List ℕ) → Bytes l → isSound l ≡ true → (s : ℕ) (c : Content) → at (bookOf l .segments) s ≡ some c → SegmentBlock (bookOf l) s c
 unfolding segmentBlock
 segment-block l y e s c q =
-    let f = all-stands (bookOf l .segments) s c (sound-book l y e .contents) q .is in
-    let w = write-read _ c (fine-places _ c f) (fine-purge _ c f) in
+    let w = segment-back CrCrLf refl l y e s c q in
     record { block = w .block; is = rw (q, w .given); given = w .given }
 
--- and a segment that does not has none.
+-- one that does not exist has none.
 no-block : (b : Book) (s : ℕ) → at (b .segments) s ≡ none → segmentBlock b s ≡ none
 unfolding segmentBlock
 no-block b s q = rw q
@@ -76,18 +86,19 @@ pub segment-most : (b : Book) (s : ℕ) (block : List ℕ) → segmentBlock b s 
 unfolding segmentBlock
 segment-most b s block e = go (at (b .segments) s) e
   where
-    given : (c : Content) (a : Answer (List ℕ)) → writtenBlock (c .places) (c .purge) ≡ a → blockGiven a ≡ some block → length block ≤ writtenBlockMost
-    given c (ok x) q f = let same : x ≡ block = cc in rw (← same) (block-most (c .places) (c .purge) x q)
+    given : (c : Content) (a : Answer (List ℕ)) → writtenBlock CrCrLf (c .places) (c .purge) ≡ a → blockGiven a ≡ some block → length block ≤ writtenBlockMost
+    given c (ok x) q f = let same : x ≡ block = cc in rw (← same) (block-most CrCrLf (c .places) (c .purge) x q)
     given c (no number place) q f = apart cc
 
     go : (o : Option Content) → contentForm o ≡ some block → length block ≤ writtenBlockMost
     go none f = apart cc
-    go (some c) f = given c (writtenBlock (c .places) (c .purge)) refl f
+    go (some c) f = given c (writtenBlock CrCrLf (c .places) (c .purge)) refl f
 
 -- where there is a block, only the room for it is asked
-pub rule-block : (room : ℕ) (c : Content) (block : List ℕ) → writtenBlock (c .places) (c .purge) ≡ ok block → writeRule room (c .places) (c .purge) ≡ fitting room block
+pub rule-block : (end : End) (room : ℕ) (c : Content) (block : List ℕ) → writtenBlock end (c .places) (c .purge) ≡ ok block
+    → writeRule end room (c .places) (c .purge) ≡ fitting room block
 unfolding writeRule andThen
-rule-block room c block e = rw e
+rule-block end room c block e = rw e
 
 -- ---- the rule, at each way out
 rule-short : (l : List ℕ) (s room : ℕ) → (length l ≡ bookLength → ⊥) → writeOn l s room ≡ refused wrongLength 0
@@ -156,10 +167,10 @@ module _ (l before : List ℕ) (s : ℕ) where
               let b = segment-block l y sound s (contentOf (blockOf s l)) here in
               let c : q .count - 0 ≡ q .count = omega arith in
               let a : Answer (List ℕ) = fitting (length before) (b .block) in
-              let v : writeRule (length before) (take (q .count - 0) (q .places)) (q .purge) ≡ a =
-              ap (λ (k : ℕ). writeRule (length before) (take k (q .places)) (q .purge)) c
-              ∙ ap (λ (x : Content). writeRule (length before) (x .places) (x .purge)) e
-              ∙ rule-block (length before) (contentOf (blockOf s l)) (b .block) (b .given) in
+              let v : writeRule CrCrLf (length before) (take (q .count - 0) (q .places)) (q .purge) ≡ a =
+              ap (λ (k : ℕ). writeRule CrCrLf (length before) (take k (q .places)) (q .purge)) c
+              ∙ ap (λ (x : Content). writeRule CrCrLf (length before) (x .places) (x .purge)) e
+              ∙ rule-block CrCrLf (length before) (contentOf (blockOf s l)) (b .block) (b .given) in
               ruled l before after s r a
               (rule-sound l s (length before) h sound (some (b .block)) (b .is))
               (w .answer ∙ ap lengthOf v)

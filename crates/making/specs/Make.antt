@@ -9,6 +9,7 @@ use Rattle.refusal.specs.Numbers.{wrongLength, notSound, noSuchSegment}
 use Rattle.refusal.specs.Answer.{Answer, ok, no, refused, must, andThen, paperVerdict}
 use Rattle.refusal.specs.declared.Verdict.{Verdict}
 use Rattle.codes.specs.Block.{Content}
+use Rattle.lines.specs.declared.End.the-variants.{CrCrLf}
 use Rattle.writing.specs.Write.{writtenBlock, fitting, lengthOf, outputOf, paperWritten}
 use Rattle.writing.specs.declared.Written.{Written}
 use Rattle.segments.specs.Segments.{Segment}
@@ -46,14 +47,14 @@ abbrev pub orNoSegment : {A : Type 0} → Option A → Answer A
 orNoSegment none = refused noSuchSegment 0
 orNoSegment (some x) = ok x
 
--- a segment's block: what `writing` gives for its places and purge. In a sound book it gives one for every segment (`segment-blocked`).
+-- a segment's block: what `writing` gives for its places and purge, with lines that "end CR CR LF". In a sound book it gives one for every segment (`segment-blocked`).
 abbrev pub blockGiven : Answer (List ℕ) → Option (List ℕ)
 blockGiven (ok block) = some block
 blockGiven (no number place) = none
 
 abbrev pub contentForm : Option Content → Option (List ℕ)
 contentForm none = none
-contentForm (some c) = blockGiven (writtenBlock (c .places) (c .purge))
+contentForm (some c) = blockGiven (writtenBlock CrCrLf (c .places) (c .purge))
 
 unfoldable pub segmentBlock : Book → ℕ → Option (List ℕ)
 segmentBlock b s = contentForm (at (b .segments) s)

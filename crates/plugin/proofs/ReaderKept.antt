@@ -20,6 +20,7 @@ use Rattle.codes.specs.Places.{capacity, isSet}
 use Rattle.codes.specs.Block as codes
 use Rattle.heading.specs.Heading.{Heading}
 use Rattle.heading.specs.Storm.{StormName}
+use Rattle.lines.specs.declared.End.the-variants.{CrCrLf}
 use Rattle.writing.specs.Pen.{writtenBlockMost}
 use Rattle.writing.proofs.Bound.{written-most}
 use Rattle.writing.specs.Write.{datedBlock, writtenBlock, fitting, writeRule, lengthOf}
@@ -266,11 +267,11 @@ written-kept : (a : Answer (List ℕ)) → Low textMost Short a → Kept plain p
 written-kept (ok _) (low-ok block k) = kept-ok (length block) (omega arith) refl
 written-kept (no _ _) (low-no reason place one most k) = kept-no {reason = reason} {place = place} one most (omega arith)
 
-dated-low : (ps : List ℕ) → isSet ps ≡ true → (o : Option Date) → Low textMost Short (datedBlock ps o)
+dated-low : (ps : List ℕ) → isSet ps ≡ true → (o : Option Date) → Low textMost Short (datedBlock CrCrLf ps o)
 dated-low ps t none = low-refused textMost Short outOfRange 0 (omega arith)
-dated-low ps t (some d) = low-ok _ (written-most ps (d .stamp) t)
+dated-low ps t (some d) = low-ok _ (written-most CrCrLf ps (d .stamp) t)
 
-block-low : (ps : List ℕ) (minute : ℕ) → Low textMost Short (writtenBlock ps minute)
+block-low : (ps : List ℕ) (minute : ℕ) → Low textMost Short (writtenBlock CrCrLf ps minute)
 unfolding writtenBlock
 block-low ps minute =
     by (isSet ps)
@@ -282,12 +283,12 @@ unfolding fitting
 fitting-low room block k = either-way (Low textMost Short) (leb (length block) room) (low-ok block k) (low-refused textMost Short outputShort 0 (omega arith))
 
 module _ (room : ℕ) where
-  rule-low : (ps : List ℕ) (minute : ℕ) → Low textMost Short (writeRule room ps minute)
+  rule-low : (ps : List ℕ) (minute : ℕ) → Low textMost Short (writeRule CrCrLf room ps minute)
   unfolding writeRule
   rule-low ps minute = low-then (fitting room) (λ block k. fitting-low room block k) (block-low ps minute)
 
-  pub block-back : (ps : List ℕ) (minute : ℕ) → unpack plain (pack plain (lengthOf (writeRule room ps minute))) ≡ lengthOf (writeRule room ps minute)
-  block-back ps minute = back plain plain (lengthOf (writeRule room ps minute)) (written-kept (writeRule room ps minute) (rule-low ps minute))
+  pub block-back : (ps : List ℕ) (minute : ℕ) → unpack plain (pack plain (lengthOf (writeRule CrCrLf room ps minute))) ≡ lengthOf (writeRule CrCrLf room ps minute)
+  block-back ps minute = back plain plain (lengthOf (writeRule CrCrLf room ps minute)) (written-kept (writeRule CrCrLf room ps minute) (rule-low ps minute))
 
   segment-low : (b : Book) (s : ℕ) → Low textMost Short (orNoSegment (segmentBlock b s))
   segment-low b s = go (segmentBlock b s) refl

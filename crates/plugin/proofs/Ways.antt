@@ -5,6 +5,7 @@ use mathlib.Core.List.{List}
 use lib.ListN.{length}
 use Rattle.refusal.specs.Answer.{paperVerdict}
 use Rattle.refusal.specs.declared.Verdict.{Verdict}
+use Rattle.lines.specs.declared.End.the-variants.{CrCrLf}
 use Rattle.writing.specs.Write.{writeRule, lengthOf, outputOf, paperWritten, Writes}
 use Rattle.writing.specs.declared.Written.{Written}
 use Rattle.steps.specs.Calls.{Call, BookAnswer}
@@ -39,10 +40,10 @@ module _ (l before after : List ℕ) (s : ℕ) (w : Written) (d : WritesOn l bef
   write-left = d .output
 
 module _ (before after places : List ℕ) (minute : ℕ) (w : Written) (d : Writes before after places minute w) where
-  pub block-packed : (r : ℕ) → r ≡ pack plain (paperWritten w) → r ≡ pack plain (lengthOf (writeRule (length before) places minute))
+  pub block-packed : (r : ℕ) → r ≡ pack plain (paperWritten w) → r ≡ pack plain (lengthOf (writeRule CrCrLf (length before) places minute))
   block-packed r e = e ∙ ap (pack plain) (d .answer)
 
-  pub block-left : after ≡ outputOf (writeRule (length before) places minute) before
+  pub block-left : after ≡ outputOf (writeRule CrCrLf (length before) places minute) before
   block-left = d .output
 
 module _ (text l before after : List ℕ) (w : Written) (d : WritesEdited text l before after w) where

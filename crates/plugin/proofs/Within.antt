@@ -15,7 +15,8 @@ use Rattle.laws.specs.Lists.{All, all-nil, all-cons}
 use Rattle.refusal.specs.Numbers.{Reason, wrongText, wrongTime, wrongBlock, noSegment, noEnd, ninthSegment, tooManyPlaces, placeTwice}
 use Rattle.refusal.specs.Answer.{Answer, ok, no, refused, refusedAt, must, andThen}
 use Rattle.lines.specs.Bytes.{lf}
-use Rattle.lines.specs.Lines.{glue, pieces, lineEnd, bodyOf, Line, linesAt, linesFrom, linesOf, blank, isEnd, opens}
+use Rattle.lines.specs.declared.End.{End}
+use Rattle.lines.specs.Lines.{glue, pieces, lineEnd, bodyOf, endedBy, Line, linesAt, linesFrom, linesOf, blank, isEnd, opens}
 use Rattle.lines.specs.Check.{allowed, badByte, lineMost, longLine, lastEnds, unended, least, textFault, checkText}
 use Rattle.calendar.specs.Purge.{purgeOf}
 use Rattle.codes.specs.Places.{capacity}
@@ -57,7 +58,7 @@ unfolding bodyOf
 body-short [] = omega arith
 body-short (b ∷ s) = by (lineEnd (b ∷ s)) (λ t. rw t (omega arith)) (λ t. rw t (suc-le-suc (body-short s)))
 
-line-within : (n at : ℕ) (p : List ℕ) → at + length p ≤ n → Within n (record { start = at; body = bodyOf p; next = at + length p })
+line-within : (n at : ℕ) (p : List ℕ) → at + length p ≤ n → Within n (record { start = at; body = bodyOf p; next = at + length p; ended = endedBy p })
 line-within n at p h = record { start = omega arith; end = omega (arith, body-short p); next = h }
 
 lines-within : (n at : ℕ) (ps : List (List ℕ)) → at + total ps ≤ n → All (Within n) (linesAt at ps)
@@ -232,8 +233,9 @@ pub record Lies (n : ℕ) (g : Segment) : Type 0 where
 abbrev pub LowSegments : ℕ → Answer (List Segment) → Type 0
 LowSegments n a = Low n (All (Lies n)) a
 
-lies : (n start after past : ℕ) (c : Content) → start ≤ n → after ≤ n → past ≤ n → Lies n (record { start = start; block = after; past = past; content = c })
-lies n start after past c a b d = record { start = a; block = b; past = d }
+lies : (n start after past : ℕ) (end : End) (c : Content) → start ≤ n → after ≤ n → past ≤ n
+    → Lies n (record { start = start; block = after; past = past; ended = end; content = c })
+lies n start after past end c a b d = record { start = a; block = b; past = d }
 
 module _ (n start : ℕ) (h : start ≤ n) where
   dated-low : (at : ℕ) (ps : List ℕ) (o : Option ℕ) → at ≤ n → Low n Any (dated start at ps o)
@@ -283,17 +285,17 @@ module _ (text : List ℕ) (n : ℕ) (fits : length text ≤ n) where
   abbrev Next : (List Line → Answer (List Segment)) → Type 0
   Next next = (ls : List Line) → All Starts ls → LowSegments n (next ls)
 
-  ended-low : (next : List Line → Answer (List Segment)) → Next next → (start past : ℕ) (c : Content) → start ≤ length text → past ≤ length text → (ls : List Line) → All Starts ls
-      → LowSegments n (runsTo start past c next ls)
-  ended-low next i start past c f k [] a = low-refused n (All (Lies n)) noEnd start (omega arith)
-  ended-low next i start past c f k (e ∷ ls) (all-cons g a) =
-      low-then _ (λ ss p. low-ok _ (all-cons (lies n start past (e .next) c (omega arith) (omega arith) (omega (arith, g .next))) p)) (i ls a)
+  ended-low : (next : List Line → Answer (List Segment)) → Next next → (l : Line) (past : ℕ) (c : Content) → l .start ≤ length text → past ≤ length text → (ls : List Line) → All Starts ls
+      → LowSegments n (runsTo l past c next ls)
+  ended-low next i l past c f k [] a = low-refused n (All (Lies n)) noEnd (l .start) (omega arith)
+  ended-low next i l past c f k (e ∷ ls) (all-cons g a) =
+      low-then _ (λ ss p. low-ok _ (all-cons (lies n (l .start) past (e .next) (l .ended) c (omega arith) (omega arith) (omega (arith, g .next))) p)) (i ls a)
 
   opened-low : (issue : ℕ) (next : List Line → Answer (List Segment)) → Next next → (ls : List Line) → All Starts ls → LowSegments n (opened text issue next ls)
   opened-low issue next i [] a = low-ok [] all-nil
   opened-low issue next i (l ∷ ls) (all-cons f a) =
       low-then _
-      (λ p u. ended-low next i (l .start) (pastPurge (p .at) l ls) (p .content) (f .start) (past-in (p .at) l ls f a) (fromFirst isEnd (l ∷ ls)) (from-within isEnd (all-cons f a)))
+      (λ p u. ended-low next i l (pastPurge (p .at) l ls) (p .content) (f .start) (past-in (p .at) l ls f a) (fromFirst isEnd (l ∷ ls)) (from-within isEnd (all-cons f a)))
       (placed-low issue (l .start) (f .start))
 
   ninth-low : (ls : List Line) → All Starts ls → LowSegments n (ninth ls)

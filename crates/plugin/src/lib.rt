@@ -3,6 +3,7 @@
 ghost use mathlib.Core.Path.{_≡_};
 ghost use lib.ListN.{length};
 ghost use Rattle.codes.specs.Block.{contentAt};
+ghost use Rattle.lines.specs.declared.End.the-variants.{CrCrLf};
 ghost use Rattle.writing.specs.Write.{writeRule, lengthOf, outputOf};
 ghost use Rattle.bulletin.specs.Bulletin.{readBulletin};
 ghost use Rattle.bulletin.specs.Report.{reported};
@@ -160,8 +161,8 @@ pub extern "C" fn hollgrimsa_write_edited(text: &[u8], book: &[u8], out: &mut [u
 // Writes the block of these places and this purge minute to the front of out, and answers its length.
 #[no_mangle]
 pub extern "C" fn hollgrimsa_write_block(out: &mut [u8], places: &[u32], purge: u64) -> u64
-    ensures is { λ r. ⌜ r ≡ pack plain (lengthOf (writeRule (length (now (out .entry))) (now (places .entry)) purge)) ⌝ }
-    ensures left { λ _. ⌜ now (out .exit) ≡ outputOf (writeRule (length (now (out .entry))) (now (places .entry)) purge) (now (out .entry)) ⌝ }
+    ensures is { λ r. ⌜ r ≡ pack plain (lengthOf (writeRule CrCrLf (length (now (out .entry))) (now (places .entry)) purge)) ⌝ }
+    ensures left { λ _. ⌜ now (out .exit) ≡ outputOf (writeRule CrCrLf (length (now (out .entry))) (now (places .entry)) purge) (now (out .entry)) ⌝ }
 {
     packing::pack_written(writing::write_block(out, places, purge as usize))
 }

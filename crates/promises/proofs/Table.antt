@@ -2,7 +2,7 @@
 use lib.Dec.{T}
 use Rattle.refusal.specs.Answer.{andThen}
 use Rattle.lines.specs.Bytes.{begins, exactly}
-use Rattle.lines.specs.Lines.{pieces, lineEnd, bodyOf, linesAt, blank, isEnd, opens}
+use Rattle.lines.specs.Lines.{pieces, lineEnd, endNamed, bodyOf, endedBy, linesAt, blank, isEnd, opens}
 use Rattle.months.specs.Months.{leap, monthLength, nextMonth, afterJanuary, daysIn, startOf, monthFrom, monthOf}
 use Rattle.calendar.specs.Calendar.{isIssueMonth, isTime, minuteIn, isMonth, minuteOf, dateOf}
 use Rattle.calendar.specs.Purge.{monthsAround, minutesWith, firstOf, purgeIn, purgeOf}
@@ -25,5 +25,5 @@ use Rattle.laws.specs.Lists.{every}
 use Rattle.promises.specs.Examples.{holds, table}
 
 pub examples : T (every holds table)
-unfolding every sameList begins exactly pieces lineEnd bodyOf linesAt leap monthLength nextMonth afterJanuary daysIn startOf isTime minuteIn isMonth minuteOf monthFrom monthOf dateOf monthsAround minutesWith firstOf purgeIn purgeOf elementsAt elementsOfLines numbers time short said insert insertRun readFrom readBlock coveredBefore twiceFrom twiceAt contentAt placedAt pastPurge join runsOf spansOf elementOf elementsOf purgeElement blockElements wrapFrom inOrder rendered written ascends isSet writtenBlock blank isEnd opens badByte longLine lastEnds unended least textFault checkText isIssueMonth andThen isHeading headingOf isIdentifier isOffice namesStorm basinOf classOf stormOf fromFirst upToFirst stormIn segmentsFrom firstLines segmentsOf isLength readBulletin
+unfolding every sameList begins exactly pieces lineEnd endNamed bodyOf endedBy linesAt leap monthLength nextMonth afterJanuary daysIn startOf isTime minuteIn isMonth minuteOf monthFrom monthOf dateOf monthsAround minutesWith firstOf purgeIn purgeOf elementsAt elementsOfLines numbers time short said insert insertRun readFrom readBlock coveredBefore twiceFrom twiceAt contentAt placedAt pastPurge join runsOf spansOf elementOf elementsOf purgeElement blockElements wrapFrom inOrder rendered written ascends isSet writtenBlock blank isEnd opens badByte longLine lastEnds unended least textFault checkText isIssueMonth andThen isHeading headingOf isIdentifier isOffice namesStorm basinOf classOf stormOf fromFirst upToFirst stormIn segmentsFrom firstLines segmentsOf isLength readBulletin
 examples = tt

@@ -14,6 +14,7 @@ use Rattle.calendar.specs.declared.Date.{Date}
 use Rattle.codes.specs.Places.{placeOf, prefixOf, threeOf, placeBytes}
 use Rattle.codes.specs.Block.{Content, contentAt}
 use Rattle.blocks.specs.Block.{sameList}
+use Rattle.lines.specs.declared.End.the-variants.{CrCrLf}
 use Rattle.writing.specs.Write.{writtenBlock}
 use Rattle.heading.specs.Storm.{ClassName, cyclone, internal, training, disturbance, StormName}
 use Rattle.bulletin.specs.Bulletin.{Bulletin, issued, readBulletin}
@@ -63,7 +64,7 @@ isBlock text (ok block) = sameList block text
 isBlock text (no number at) = false
 
 abbrev pub isWrittenAs : String → Answer Content → Bool
-isWrittenAs text (ok c) = isBlock (bytes text ++ bytes "\r\r\n") (writtenBlock (c .places) (c .purge))
+isWrittenAs text (ok c) = isBlock (bytes text ++ bytes "\r\r\n") (writtenBlock CrCrLf (c .places) (c .purge))
 isWrittenAs text (no number at) = false
 
 -- ---- a bulletin of 2002-04 with this BBB on line 1 and these bytes at its office line's end

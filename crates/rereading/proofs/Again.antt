@@ -33,7 +33,7 @@ use Rattle.keeping.proofs.Keeping.{new-sound}
 use Rattle.making.specs.Make.{bookFrom, makeRule}
 use Rattle.making.proofs.Made.{read-back}
 use Rattle.making.proofs.Sounding.{must-true, made-dated, made-sound}
-use Rattle.forms.specs.Edited.{edited, writtenForms}
+use Rattle.forms.specs.Edited.{edited, endsIn, writtenForms}
 use Rattle.sending.specs.Send.{editedRule}
 use Rattle.rereading.specs.Demand.{blockText, InWrittenForm, Agrees, MadeAgain}
 use Rattle.rereading.proofs.Ordered.{own-blocks}
@@ -43,7 +43,7 @@ use Rattle.rereading.proofs.Demand.{agrees-belongs, rule-is, given, wri
 -- ---- a text in written form
 -- With its own written forms in place of its blocks it is unchanged.
 pub own-edited : (text : List ℕ) (year month : ℕ) (r : Bulletin) (blocks : List (List ℕ)) → readBulletin text year month ≡ ok r
-    → All (InWrittenForm text) (r .segments) → writtenForms (map (λ (g : Segment). g .content) (r .segments)) ≡ ok blocks
+    → All (InWrittenForm text) (r .segments) → writtenForms (endsIn (r .segments)) (map (λ (g : Segment). g .content) (r .segments)) ≡ ok blocks
     → edited text (r .segments) blocks ≡ text
 own-edited text year month r blocks e forms given =
     let same : blocks ≡ map (blockText text) (r .segments) = ok-one _ _ (sym given ∙ each-forms text forms) in
@@ -64,7 +64,7 @@ unchanged : (text l : List ℕ) (room : ℕ) (d : Date) (r : Bulletin) → isSou
     → All (InWrittenForm text) (r .segments) → length text ≤ room → editedRule text l room ≡ ok text
 unchanged text l room d r good dated e a contents forms fits =
     let blocks : List (List ℕ) = map (blockText text) (r .segments) in
-    let given : writtenForms (bookOf l .segments) ≡ ok blocks = ap writtenForms (sym contents) ∙ each-forms text forms in
+    let given : writtenForms (endsIn (r .segments)) (bookOf l .segments) ≡ ok blocks = ap (writtenForms (endsIn (r .segments))) (sym contents) ∙ each-forms text forms in
     let same : edited text (r .segments) blocks ≡ text = own-edited text (d .year) (d .month) r blocks e forms (each-forms text forms) in
     rule-is text l room d r blocks (rw (read-long text (d .year) (d .month) r e, sound-parts l good .long)) good dated e (agrees-belongs (bookOf l) r a) given
     ∙ ap (fitting room) same

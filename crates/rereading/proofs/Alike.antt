@@ -8,7 +8,7 @@ use lib.ListN.{length}
 use Rattle.laws.proofs.Tests.{by, apart}
 use Rattle.laws.specs.Lists.{All, all-nil, all-cons}
 use Rattle.refusal.specs.Answer.{Answer, ok}
-use Rattle.lines.specs.Lines.{bodyOf, blank, Line, linesAt}
+use Rattle.lines.specs.Lines.{bodyOf, endedBy, blank, Line, linesAt}
 use Rattle.heading.specs.Storm as storm
 use Rattle.heading.specs.Storm.{isOffice, StormName, StormSaid, stormOf}
 use Rattle.segments.specs.Search.{fromFirst, upToFirst, afterFirst, closes}
@@ -59,7 +59,7 @@ unfolding linesAt upToFirst fromFirst
 office-end at p ps c = rw c
 
 office-here : (at : ℕ) (p : List ℕ) (ps : List (List ℕ)) → closes (bodyOf p) ≡ false → isOffice (bodyOf p) ≡ true
-    → office (linesAt at (p ∷ ps)) ≡ stormSaid (record { start = at; body = bodyOf p; next = at + length p }) (stormOf (bodyOf p))
+    → office (linesAt at (p ∷ ps)) ≡ stormSaid (record { start = at; body = bodyOf p; next = at + length p; ended = endedBy p }) (stormOf (bodyOf p))
 unfolding linesAt upToFirst fromFirst
 office-here at p ps c o = rw c (rw o)
 

@@ -12,6 +12,7 @@ use Rattle.laws.specs.Lists.{All, all-nil, all-cons}
 use Rattle.refusal.specs.Numbers.{wrongBlock}
 use Rattle.refusal.specs.Answer.{Answer, ok, refused, andThen}
 use Rattle.lines.specs.Lines.{bodyOf, blank, opens, Line, linesAt}
+use Rattle.lines.specs.declared.End.{End}
 use Rattle.codes.specs.Block.{Content}
 use Rattle.codes.specs.Written.{inOrder}
 use Rattle.segments.specs.Search.{fromFirst, linesAfter, afterFirst, closes}
@@ -19,7 +20,7 @@ use Rattle.segments.specs.Segments.{Segment, segmentsFrom, most}
 use Rattle.bulletin.specs.Starts.{fromLine3, firstLines, segmentsOf, oneOrMore}
 use Rattle.bulletin.proofs.Saying.{by-then, ok-one}
 use Rattle.making.proofs.Made.{some-same}
-use Rattle.forms.specs.Edited.{edited}
+use Rattle.forms.specs.Edited.{edited, endsIn}
 use Rattle.rereading.specs.Demand.{blockText}
 use Rattle.rereading.proofs.WholeLines.{joined-append, No, pass, pass-all, stop, Sought, missing, found, seek}
 use Rattle.rereading.proofs.Inert.{opens-inert}
@@ -55,7 +56,7 @@ module _ (issue : ℕ) (one two : List ℕ) where
   unfolding firstLines linesAt third
   lines-is end ps = refl
 
-  pub record Below (text : List ℕ) (ps : List (List ℕ)) (gs : List Segment) (cs : List Content) (blocks : List (List ℕ)) : Type 0 where
+  pub record Below (text : List ℕ) (ps : List (List ℕ)) (gs : List Segment) (ends : List End) (cs : List Content) (blocks : List (List ℕ)) : Type 0 where
     pub lines : List (List ℕ)
     pub fair : All Fair lines
     pub alike : Alike ps lines
@@ -63,31 +64,32 @@ module _ (issue : ℕ) (one two : List ℕ) where
     pub are : edited text gs blocks ≡ inOrder (one ∷ two ∷ lines)
     pub segments : List Segment
     pub listed : segmentsOf (inOrder (one ∷ two ∷ lines)) issue (below lines) ≡ ok segments
+    pub ended : endsIn segments ≡ ends
     pub contents : map (λ (g : Segment). g .content) segments ≡ cs
     pub stand : map (blockText (inOrder (one ∷ two ∷ lines))) segments ≡ blocks
 
   -- the segments, from where they start
-  listing : (text : List ℕ) (qs : List (List ℕ)) (ls : List Line) (cs : List Content) (blocks : List (List ℕ)) → firstLines (length text) (below qs) ≡ ok ls
-      → 1 ≤ length cs → (r : Listed most text issue ls cs blocks) → segmentsOf text issue (below qs) ≡ ok (r .segments)
+  listing : (text : List ℕ) (qs : List (List ℕ)) (ls : List Line) (ends : List End) (cs : List Content) (blocks : List (List ℕ)) → firstLines (length text) (below qs) ≡ ok ls
+      → 1 ≤ length cs → (r : Listed most text issue ls ends cs blocks) → segmentsOf text issue (below qs) ≡ ok (r .segments)
   unfolding segmentsOf andThen
-  listing text qs ls cs blocks f h r =
+  listing text qs ls ends cs blocks f h r =
       let n : length (r .segments) ≡ length cs =
       sym (length-map (r .segments) (λ (g : Segment). g .content)) ∙ ap (λ (l : List Content). length l) (r .contents) in
       ap (λ (x : Answer (List Line)). andThen x (λ ls. andThen (segmentsFrom most text issue ls) (oneOrMore (length text)))) f
       ∙ ap (λ (x : Answer (List Segment)). andThen x (oneOrMore (length text))) (r .listed)
       ∙ some-is (length text) (r .segments) (omega arith)
 
-  module _ (text : List ℕ) (gs : List Segment) (cs : List Content) (blocks : List (List ℕ)) (many : 1 ≤ length gs) (l : length cs ≡ length gs)
-      (ws : NewBlocks issue cs blocks) where
+  module _ (text : List ℕ) (gs : List Segment) (ends : List End) (cs : List Content) (blocks : List (List ℕ)) (many : 1 ≤ length gs) (l : length cs ≡ length gs)
+      (ws : NewBlocks issue ends cs blocks) where
     -- ---- from where the segments start on, behind `front`
     module _ (front : List ℕ) (xs : List (List ℕ)) (fair : All Fair xs) (a : text ≡ front ++ inOrder xs)
         (e : segmentsFrom most text issue (linesAt (length front) xs) ≡ ok gs) where
-      behind : Replaced text issue most (length front) xs gs cs blocks
-      behind = replacing text issue most front xs gs cs blocks fair a e l ws
+      behind : Replaced text issue most (length front) xs gs ends cs blocks
+      behind = replacing text issue most front xs gs ends cs blocks fair a e l ws
 
       -- the lines ps, which end with xs, become qs
       whole : (ps qs : List (List ℕ)) → All Fair qs → Alike ps qs → inOrder (one ∷ two ∷ qs) ≡ front ++ inOrder (behind .lines)
-          → firstLines (length (inOrder (one ∷ two ∷ qs))) (below qs) ≡ ok (linesAt (length front) (behind .lines)) → Below text ps gs cs blocks
+          → firstLines (length (inOrder (one ∷ two ∷ qs))) (below qs) ≡ ok (linesAt (length front) (behind .lines)) → Below text ps gs ends cs blocks
       whole ps qs f alike t first =
           let back = behind .back (inOrder (one ∷ two ∷ qs)) front t in
           record {
@@ -97,7 +99,8 @@ module _ (issue : ℕ) (one two : List ℕ) where
             ordered = behind .ordered 0 (omega arith);
             are = behind .cut [] front a (omega arith) ∙ sym t;
             segments = back .segments;
-            listed = listing (inOrder (one ∷ two ∷ qs)) qs (linesAt (length front) (behind .lines)) cs blocks first (omega arith) back;
+            listed = listing (inOrder (one ∷ two ∷ qs)) qs (linesAt (length front) (behind .lines)) ends cs blocks first (omega arith) back;
+            ended = back .ended;
             contents = back .contents;
             stand = back .stand;
           }
@@ -131,7 +134,7 @@ module _ (issue : ℕ) (one two : List ℕ) where
       unfolding front inOrder
       front-joined ys = simp (joined-append, append-assoc)
 
-      blank-below : segmentsFrom most text issue (linesAt past xs) ≡ ok gs → Below text (p ∷ (fs ++ (d ∷ xs))) gs cs blocks
+      blank-below : segmentsFrom most text issue (linesAt past xs) ≡ ok gs → Below text (p ∷ (fs ++ (d ∷ xs))) gs ends cs blocks
       blank-below e =
           let kept : All Fair (d ∷ xs) = all-right fs (d ∷ xs) (all-tail f) in
           let a : text ≡ front ++ inOrder xs = t ∙ front-joined xs in
@@ -161,7 +164,7 @@ module _ (issue : ℕ) (one two : List ℕ) where
     two-joined ps = simp append-assoc
 
     open-below : (ps : List (List ℕ)) → All Fair ps → text ≡ inOrder (one ∷ two ∷ ps) → FirstOpens ps → segmentsFrom most text issue (linesAt third ps) ≡ ok gs
-        → Below text ps gs cs blocks
+        → Below text ps gs ends cs blocks
     open-below ps f t o e =
         let a : text ≡ front₂ ++ inOrder ps = t ∙ two-joined ps in
         let s : segmentsFrom most text issue (linesAt (length front₂) ps) ≡ ok gs = ap (λ (k : ℕ). segmentsFrom most text issue (linesAt k ps)) long₂ ∙ e in
@@ -171,7 +174,7 @@ module _ (issue : ℕ) (one two : List ℕ) where
     -- ---- line 3
     -- where no line closes the MND block, no segment follows
     closed-below : (p : List ℕ) (ps : List (List ℕ)) → All Fair (p ∷ ps) → text ≡ inOrder (one ∷ two ∷ p ∷ ps) → blank (bodyOf p) ≡ true → Sought closes ps
-        → segmentsFrom most text issue (afterFirst closes (linesAt (third + length p) ps)) ≡ ok gs → Below text (p ∷ ps) gs cs blocks
+        → segmentsFrom most text issue (afterFirst closes (linesAt (third + length p) ps)) ≡ ok gs → Below text (p ∷ ps) gs ends cs blocks
     unfolding segmentsFrom fromFirst past
     closed-below p ps f t b (missing a) e =
         let n : ok [] ≡ ok gs = ap (λ (ls : List Line). segmentsFrom most text issue (linesAfter ls)) (sym (pass-all closes (third + length p) a)) ∙ e in
@@ -180,13 +183,13 @@ module _ (issue : ℕ) (one two : List ℕ) where
     closed-below p ps f t b (found fs d xs q nf nd) e =
         let after : afterFirst closes (linesAt (third + length p) ps) ≡ linesAt (third + length p + length (inOrder fs) + length d) xs =
         ap (λ (x : List (List ℕ)). afterFirst closes (linesAt (third + length p) x)) q ∙ after-found closes (third + length p) d xs nf nd in
-        subst (λ (x : List (List ℕ)). Below text (p ∷ x) gs cs blocks) (sym q)
+        subst (λ (x : List (List ℕ)). Below text (p ∷ x) gs ends cs blocks) (sym q)
         (blank-below p fs d xs (subst (λ (x : List (List ℕ)). All Fair (p ∷ x)) q f) (t ∙ ap (λ (x : List (List ℕ)). inOrder (one ∷ two ∷ p ∷ x)) q) b nf nd
         (ap (segmentsFrom most text issue) (sym after) ∙ e))
 
     third-below : (ps : List (List ℕ)) → All Fair ps → text ≡ inOrder (one ∷ two ∷ ps) → (ls : List Line)
         → fromLine3 (afterFirst closes (afterFirst blank (linesAt third ps))) (length text) (linesAt third ps) ≡ ok ls
-        → segmentsFrom most text issue ls ≡ ok gs → Below text ps gs cs blocks
+        → segmentsFrom most text issue ls ≡ ok gs → Below text ps gs ends cs blocks
     unfolding linesAt fromFirst
     third-below [] f t ls e h = apart cc
     third-below (p ∷ ps) f t ls e h =
@@ -196,13 +199,13 @@ module _ (issue : ℕ) (one two : List ℕ) where
         (λ o. open-below (p ∷ ps) f t o (ap (segmentsFrom most text issue) (ok-one _ ls (rw (b, o) at e)) ∙ h))
         λ o. let w : refused wrongBlock third ≡ ok ls = rw (b, o) at e in apart cc
 
-  pub below-edited : (text : List ℕ) (ps : List (List ℕ)) (gs : List Segment) (cs : List Content) (blocks : List (List ℕ)) → All Fair ps
-      → text ≡ inOrder (one ∷ two ∷ ps) → segmentsOf text issue (below ps) ≡ ok gs → length cs ≡ length gs → NewBlocks issue cs blocks
-      → Below text ps gs cs blocks
+  pub below-edited : (text : List ℕ) (ps : List (List ℕ)) (gs : List Segment) (ends : List End) (cs : List Content) (blocks : List (List ℕ)) → All Fair ps
+      → text ≡ inOrder (one ∷ two ∷ ps) → segmentsOf text issue (below ps) ≡ ok gs → length cs ≡ length gs → NewBlocks issue ends cs blocks
+      → Below text ps gs ends cs blocks
   unfolding segmentsOf
-  below-edited text ps gs cs blocks f t e l ws =
+  below-edited text ps gs ends cs blocks f t e l ws =
       by-then (firstLines (length text) (below ps)) _ gs
       (λ ls first. by-then (segmentsFrom most text issue ls) _ gs λ hs h s.
       let b = some-same (length text) hs gs s in
-      third-below text gs cs blocks (b .one) l ws ps f t ls (sym (lines-is (length text) ps) ∙ first) (h ∙ ap ok (b .same)))
+      third-below text gs ends cs blocks (b .one) l ws ps f t ls (sym (lines-is (length text) ps) ∙ first) (h ∙ ap ok (b .same)))
       e

@@ -27,15 +27,16 @@ use Rattle.layout.specs.Layout.{bookOf}
 use Rattle.layout.specs.Sound.{isIssue, Sound}
 use Rattle.layout.specs.Tests.{isSound}
 use Rattle.layout.proofs.SoundBack.{sound-book}
-use Rattle.forms.specs.Edited.{edited, writtenForms}
+use Rattle.forms.specs.Edited.{edited, endsIn, writtenForms}
 use Rattle.sending.specs.Send.{readUnder, belongs, editedRule}
-use Rattle.rereading.specs.Demand.{ReadsTo, EditedReads, WrittenReads, Agrees, EditedText}
+use Rattle.rereading.specs.Demand.{ReadsTo, EditedReads, WrittenReads, OnlyEnd, KeepsEnd, Agrees, EditedText}
 use Rattle.rereading.specs.Demand.{EditedAnswer, other-length, unsound, unreadable, stranger, no-room, written-out}
-use Rattle.rereading.proofs.WrittenBlock.{all-written}
+use Rattle.rereading.proofs.WrittenBlock.{AllWritten}
 use Rattle.forms.specs.Forms.{formsRoom}
 use Rattle.forms.proofs.Forming.{forms-most}
 use Rattle.rereading.proofs.Ordered.{ordered-most}
-use Rattle.rereading.proofs.ReadsEdited.{edited-reads, read-ordered}
+use Rattle.rereading.proofs.OneEnd.{edited-one-end}
+use Rattle.rereading.proofs.ReadsEdited.{read-written, edited-reads, read-ordered}
 
 -- ---- a sound book
 -- its issue has a year and a month
@@ -44,10 +45,6 @@ unfolding isIssue
 sound-dated b s =
     let h : b .issue < startOf issueMonths = ltb-true (b .issue) (startOf issueMonths) (s .year) in
     date-some (b .issue) (omega (arith, start-mono issueMonths allMonths (omega arith), start-end))
-
--- and its segments have their written forms
-pub forms-given : (b : Book) → Sound b → (blocks : List (List ℕ)) × (writtenForms (b .segments) ≡ ok blocks)
-forms-given b s = let w = all-written (b .issue) (s .contents) in (w .blocks, w .given)
 
 -- ---- a text that belongs to a book
 pub belongs-agrees : (b : Book) (r : Bulletin) → belongs b r ≡ true → Agrees b r
@@ -61,12 +58,19 @@ pub agrees-belongs : (b : Book) (r : Bulletin) → Agrees b r → belongs b r �
 unfolding belongs
 agrees-belongs b r a = rw (eq-eqb (r .issue) (b .issue) (a .issue), eq-eqb (length (r .segments)) (length (b .segments)) (a .count))
 
--- can be edited by it, if the book is sound
-belongs-reads : (text : List ℕ) (year month : ℕ) (b : Book) (r : Bulletin) → Sound b → readBulletin text year month ≡ ok r → Agrees b r
-    → EditedReads text year month r (b .segments)
-belongs-reads text year month b r s e a =
-    edited-reads text year month r e (b .segments)
-    (subst (λ (k : ℕ). All (λ (c : Content). isContent k c ≡ true) (b .segments)) (sym (a .issue)) (s .contents)) (sym (a .count))
+-- ---- and the book is sound
+-- its contents are right under the text's issue,
+agreed-contents : (b : Book) (r : Bulletin) → Sound b → Agrees b r → All (λ (c : Content). isContent (r .issue) c ≡ true) (b .segments)
+agreed-contents b r s a = subst (λ (k : ℕ). All (λ (c : Content). isContent k c ≡ true) (b .segments)) (sym (a .issue)) (s .contents)
+
+module _ (text : List ℕ) (year month : ℕ) (b : Book) (r : Bulletin) (s : Sound b) (e : readBulletin text year month ≡ ok r) (a : Agrees b r) where
+  -- they have their written forms, whose lines end as the first lines of the text's blocks did,
+  pub forms-given : AllWritten (r .issue) (endsIn (r .segments)) (b .segments)
+  forms-given = read-written text year month r e (b .segments) (agreed-contents b r s a) (sym (a .count))
+
+  -- and the text can be edited by it
+  belongs-reads : EditedReads text year month r (b .segments)
+  belongs-reads = edited-reads text year month r e (b .segments) (agreed-contents b r s a) (sym (a .count))
 
 -- ---- the rule, test by test
 -- the year and month under which the text is read
@@ -80,7 +84,7 @@ module _ (text l : List ℕ) (room : ℕ) where
   -- every test but the last is passed: the edited text, or 23
   pub rule-is : (d : Date) (r : Bulletin) (blocks : List (List ℕ)) → (isLength text && eqb (length l) bookLength) ≡ true → isSound l ≡ true
       → dateOf (bookOf l .issue) ≡ some d → readBulletin text (d .year) (d .month) ≡ ok r → belongs (bookOf l) r ≡ true
-      → writtenForms (bookOf l .segments) ≡ ok blocks → editedRule text l room ≡ fitting room (edited text (r .segments) blocks)
+      → writtenForms (endsIn (r .segments)) (bookOf l .segments) ≡ ok blocks → editedRule text l room ≡ fitting room (edited text (r .segments) blocks)
   unfolding editedRule andThen
   rule-is d r blocks a s e f g h = rw (a, s, read-under text _ d e ∙ f, g, h)
 
@@ -96,13 +100,14 @@ module _ (text l : List ℕ) (room : ℕ) where
   unfolding editedRule andThen
   told-read d good long s dated (no number place) e = rw (long, good, read-under text _ d dated ∙ e) (unreadable d number place dated e)
   told-read d good long s dated (ok r) e =
-      let w = forms-given (bookOf l) s in
       let under = read-under text (dateOf (bookOf l .issue)) d dated ∙ e in
       by (belongs (bookOf l) r)
       (λ t.
-      rw (long, good, under, t, w .1)
-      (told-fitting (edited text (r .segments) (w .0))
-      (record { sound = good; date = d; dated = dated; read = r; reads = e; agrees = belongs-agrees (bookOf l) r t; blocks = w .0; given = w .1; is = refl })))
+      let agrees = belongs-agrees (bookOf l) r t in
+      let w = forms-given text (d .year) (d .month) (bookOf l) r s e agrees in
+      rw (long, good, under, t, w .given)
+      (told-fitting (edited text (r .segments) (w .blocks))
+      (record { sound = good; date = d; dated = dated; read = r; reads = e; agrees = agrees; blocks = w .blocks; given = w .given; is = refl })))
       (λ t. rw (long, good, under, t) (stranger d r dated e t))
 
   -- For bytes l the rule answers 1, 12, reading's own, 27, 23 or the edited text, each where its own test says so, and nothing else.
@@ -157,10 +162,17 @@ module _ (text l : List ℕ) (room : ℕ) (out : List ℕ) (y : Bytes l) (e : ed
             (r .reads (subst (λ (x : List ℕ). length x ≤ textMost) is most));
       }
 
+  -- If every line of the text ended so, every line of the output does: none mixes line ends that the text did not mix.
+  pub output-one-end : KeepsEnd text out
+  output-one-end end only =
+      let w = given .edits in
+      subst (OnlyEnd end) (sym (w .is))
+      (edited-one-end text (w .date .year) (w .date .month) (w .read) (w .reads) (bookOf l .segments) (w .blocks) (w .given) end only)
+
   -- It has at most 9,728 bytes more than the text: those of eight blocks.
   pub edited-most : length out ≤ length text + formsRoom
   edited-most =
       let w = given .edits in
       let o = ordered-most text (read-ordered text (w .date .year) (w .date .month) (w .read) (w .reads)) (w .blocks) in
       let same : length out ≡ length (edited text (w .read .segments) (w .blocks)) = ap (λ (x : List ℕ). length x) (w .is) in
-      omega (arith, same, o, forms-most (bookOf l .segments) (w .blocks) (w .given), sound-book l y (w .sound) .eight)
+      omega (arith, same, o, forms-most (endsIn (w .read .segments)) (bookOf l .segments) (w .blocks) (w .given), sound-book l y (w .sound) .eight)

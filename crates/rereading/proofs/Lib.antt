@@ -2,6 +2,7 @@ pub mod WholeLines
 pub mod Inert
 pub mod OldBlock
 pub mod Fair
+pub mod Spanned
 pub mod Alike
 pub mod Ordered
 pub mod Replaced
@@ -10,5 +11,6 @@ pub mod WrittenLines
 pub mod WrittenBlock
 pub mod Below
 pub mod ReadsEdited
+pub mod OneEnd
 pub mod Demand
 pub mod Again

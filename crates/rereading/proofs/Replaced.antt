@@ -10,16 +10,17 @@ use Rattle.laws.proofs.Tests.{apart, impossible}
 use Rattle.laws.proofs.Lists.{all-append, all-left, all-right, all-map, all-head}
 use Rattle.laws.specs.Lists.{All, all-cons}
 use Rattle.refusal.specs.Answer.{ok, andThen}
-use Rattle.lines.specs.Lines.{bodyOf, isEnd, opens, Line, linesAt}
+use Rattle.lines.specs.Lines.{bodyOf, endedBy, isEnd, opens, Line, linesAt}
 use Rattle.lines.specs.Spans.{part}
+use Rattle.lines.specs.declared.End.{End}
 use Rattle.codes.specs.Block.{Content}
 use Rattle.codes.specs.Written.{inOrder}
 use Rattle.reading.specs.Placed.{placedAt}
 use Rattle.segments.specs.Search.{fromFirst}
 use Rattle.segments.specs.Segments.{Segment, pastPurge, opened, segmentsFrom}
-use Rattle.forms.specs.Edited.{editedFrom}
+use Rattle.forms.specs.Edited.{editedFrom, endsIn}
 use Rattle.rereading.specs.Demand.{blockText}
-use Rattle.rereading.proofs.WholeLines.{joined-append, Whole, No, pass, pass-to, pass-all, stop}
+use Rattle.rereading.proofs.WholeLines.{joined-append, Whole, EndsWith, No, pass, pass-to, pass-all, stop}
 use Rattle.rereading.proofs.Inert.{InertLine}
 use Rattle.rereading.proofs.OldBlock.{pastIn}
 use Rattle.rereading.proofs.Fair.{Fair, wholes}
@@ -38,33 +39,36 @@ pub record ReadAs (text : List ℕ) (issue at : ℕ) (qs : List (List ℕ)) (c :
   pub placed : placedAt text issue at ≡ ok (record { content = c; at = purge-at })
   pub past : pastIn purge-at (linesAt at qs) ≡ at + n
 
--- lines that pass refusal 2, are inert, open a block and, wherever they stand and whatever lines follow, are read as this content, to the last of them
-pub record NewBlock (issue : ℕ) (c : Content) (b : List ℕ) : Type 0 where
+-- lines that pass refusal 2, are inert, all end so, open a block and, wherever they stand and whatever lines follow, are read as this content, to the last of
+-- them
+pub record NewBlock (issue : ℕ) (end : End) (c : Content) (b : List ℕ) : Type 0 where
   pub lines : List (List ℕ)
   pub are : inOrder lines ≡ b
   pub fair : All Fair lines
   pub inert : All InertLine lines
+  pub ended : All (EndsWith end) lines
   pub first : FirstOpens lines
   pub back : (text front : List ℕ) (rest : List (List ℕ)) → All Whole rest → text ≡ front ++ inOrder (lines ++ rest)
       → ReadAs text issue (length front) (lines ++ rest) c (length b)
 
-pub data NewBlocks (issue : ℕ) : List Content → List (List ℕ) → Type 0 where
-  no-more : NewBlocks issue [] []
-  one-more : {c : Content} {cs : List Content} {b : List ℕ} {bs : List (List ℕ)} → NewBlock issue c b → NewBlocks issue cs bs
-      → NewBlocks issue (c ∷ cs) (b ∷ bs)
+pub data NewBlocks (issue : ℕ) : List End → List Content → List (List ℕ) → Type 0 where
+  no-more : NewBlocks issue [] [] []
+  one-more : {end : End} {ends : List End} {c : Content} {cs : List Content} {b : List ℕ} {bs : List (List ℕ)} → NewBlock issue end c b
+      → NewBlocks issue ends cs bs → NewBlocks issue (end ∷ ends) (c ∷ cs) (b ∷ bs)
 
 -- ---- what replacing gives
--- at most n segments with these contents, whose blocks are these
-pub record Listed (n : ℕ) (text : List ℕ) (issue : ℕ) (ls : List Line) (cs : List Content) (blocks : List (List ℕ)) : Type 0 where
+-- at most n segments with these contents, whose blocks are these, with first lines that ended so
+pub record Listed (n : ℕ) (text : List ℕ) (issue : ℕ) (ls : List Line) (ends : List End) (cs : List Content) (blocks : List (List ℕ)) : Type 0 where
   pub segments : List Segment
   pub listed : segmentsFrom n text issue ls ≡ ok segments
+  pub ended : endsIn segments ≡ ends
   pub contents : map (λ (g : Segment). g .content) segments ≡ cs
   pub stand : map (blockText text) segments ≡ blocks
 
 -- The lines ps stand in the text from the place `at` on, to its end, and have the segments gs. With these blocks in place of theirs they are other lines,
 -- alike but for inert ones; a text that ends with those has segments with the new contents there.
 -- `cut` is for every way to part the text before ps: the next segment is cut from behind the block before it, while its lines start behind that one's `$$`.
-pub record Replaced (text : List ℕ) (issue n at : ℕ) (ps : List (List ℕ)) (gs : List Segment) (cs : List Content) (blocks : List (List ℕ)) : Type 0 where
+pub record Replaced (text : List ℕ) (issue n at : ℕ) (ps : List (List ℕ)) (gs : List Segment) (ends : List End) (cs : List Content) (blocks : List (List ℕ)) : Type 0 where
   pub lines : List (List ℕ)
   pub fair : All Fair lines
   pub alike : Alike ps lines
@@ -72,7 +76,7 @@ pub record Replaced (text : List ℕ) (issue n at : ℕ) (ps : List (List ℕ)) 
   pub ordered : (k : ℕ) → k ≤ at → Ordered k gs
   pub cut : (front mid : List ℕ) → text ≡ front ++ (mid ++ inOrder ps) → length front + length mid ≡ at
       → editedFrom (length front) text gs blocks ≡ mid ++ inOrder lines
-  pub back : (text′ front : List ℕ) → text′ ≡ front ++ inOrder lines → Listed n text′ issue (linesAt (length front) lines) cs blocks
+  pub back : (text′ front : List ℕ) → text′ ≡ front ++ inOrder lines → Listed n text′ issue (linesAt (length front) lines) ends cs blocks
 
 -- ---- no segment
 module _ (text : List ℕ) (issue : ℕ) where
@@ -81,7 +85,7 @@ module _ (text : List ℕ) (issue : ℕ) where
   segments-none zero at a = rw (pass-all opens at a)
   segments-none (suc n) at a = rw (pass-all opens at a)
 
-pub replaced-none : (text : List ℕ) (issue n at : ℕ) {ps : List (List ℕ)} → All Fair ps → All (No opens) ps → Replaced text issue n at ps [] [] []
+pub replaced-none : (text : List ℕ) (issue n at : ℕ) {ps : List (List ℕ)} → All Fair ps → All (No opens) ps → Replaced text issue n at ps [] [] [] []
 unfolding editedFrom
 replaced-none text issue n at {ps} f a =
     record {
@@ -91,7 +95,7 @@ replaced-none text issue n at {ps} f a =
       first = λ o. o;
       ordered = λ k h. no-segment;
       cut = λ front mid e h. ap (drop (length front)) e ∙ drop-append-seam front (mid ++ inOrder ps);
-      back = λ text′ front e. record { segments = []; listed = segments-none text′ issue n (length front) a; contents = refl; stand = refl };
+      back = λ text′ front e. record { segments = []; listed = segments-none text′ issue n (length front) a; ended = refl; contents = refl; stand = refl };
     }
 
 -- ---- one segment more
@@ -107,25 +111,32 @@ pub inert-no-end : {ws : List (List ℕ)} → All InertLine ws → All (No isEnd
 inert-no-end a = all-map (λ w i. i .not-end) a
 
 -- lines that do not open a block are passed over
-listed-from : (n : ℕ) (text : List ℕ) (issue : ℕ) (ls ms : List Line) (cs : List Content) (blocks : List (List ℕ)) → fromFirst opens ls ≡ fromFirst opens ms
-    → Listed (suc n) text issue ms cs blocks → Listed (suc n) text issue ls cs blocks
+listed-from : (n : ℕ) (text : List ℕ) (issue : ℕ) (ls ms : List Line) (ends : List End) (cs : List Content) (blocks : List (List ℕ))
+    → fromFirst opens ls ≡ fromFirst opens ms → Listed (suc n) text issue ms ends cs blocks → Listed (suc n) text issue ls ends cs blocks
 unfolding segmentsFrom
-listed-from n text issue ls ms cs blocks e l =
-    record { segments = l .segments; listed = ap (opened text issue (segmentsFrom n text issue)) e ∙ l .listed; contents = l .contents; stand = l .stand }
+listed-from n text issue ls ms ends cs blocks e l =
+    record {
+      segments = l .segments;
+      listed = ap (opened text issue (segmentsFrom n text issue)) e ∙ l .listed;
+      ended = l .ended;
+      contents = l .contents;
+      stand = l .stand;
+    }
 
--- the segment that opens here is read as this content, its block is b, and it ends at the line d
-opened-first : (n : ℕ) (text : List ℕ) (issue at k : ℕ) (ws xs : List (List ℕ)) (d : List ℕ) (ys : List (List ℕ)) (c : Content) (cs : List Content)
-    (b : List ℕ) (blocks : List (List ℕ)) → FirstOpens ws → ReadAs text issue at (ws ++ xs) c (length b) → part text at (at + length b) ≡ b
-    → fromFirst isEnd (linesAt at (ws ++ xs)) ≡ linesAt k (d ∷ ys) → Listed n text issue (linesAt (k + length d) ys) cs blocks
-    → Listed (suc n) text issue (linesAt at (ws ++ xs)) (c ∷ cs) (b ∷ blocks)
+-- the segment that opens here is read as this content, its block is b, with lines that ended so, and it ends at the line d
+opened-first : (n : ℕ) (text : List ℕ) (issue at k : ℕ) (ws xs : List (List ℕ)) (d : List ℕ) (ys : List (List ℕ)) (end : End) (ends : List End)
+    (c : Content) (cs : List Content) (b : List ℕ) (blocks : List (List ℕ)) → FirstOpens ws → All (EndsWith end) ws
+    → ReadAs text issue at (ws ++ xs) c (length b) → part text at (at + length b) ≡ b → fromFirst isEnd (linesAt at (ws ++ xs)) ≡ linesAt k (d ∷ ys)
+    → Listed n text issue (linesAt (k + length d) ys) ends cs blocks → Listed (suc n) text issue (linesAt at (ws ++ xs)) (end ∷ ends) (c ∷ cs) (b ∷ blocks)
 unfolding segmentsFrom linesAt andThen
-opened-first n text issue at k [] xs d ys c cs b blocks o p q f l = impossible o
-opened-first n text issue at k (w ∷ ws) xs d ys c cs b blocks o p q f l =
-    let line : Line = record { start = at; body = bodyOf w; next = at + length w } in
+opened-first n text issue at k [] xs d ys end ends c cs b blocks o h p q f l = impossible o
+opened-first n text issue at k (w ∷ ws) xs d ys end ends c cs b blocks o h p q f l =
+    let line : Line = record { start = at; body = bodyOf w; next = at + length w; ended = endedBy w } in
     let past : ℕ = pastPurge (p .purge-at) line (linesAt (at + length w) (ws ++ xs)) in
     record {
-      segments = record { start = at; block = past; past = k + length d; content = c } ∷ l .segments;
+      segments = record { start = at; block = past; past = k + length d; ended = endedBy w; content = c } ∷ l .segments;
       listed = ap (opened text issue (segmentsFrom n text issue)) (stop opens at w (ws ++ xs) o) ∙ rw (p .placed, f, l .listed);
+      ended = ap₂ (λ (x : End) (y : List End). x ∷ y) (all-head h) (l .ended);
       contents = ap (λ (x : List Content). c ∷ x) (l .contents);
       stand = ap₂ (λ (x : List ℕ) (y : List (List ℕ)). x ∷ y) (ap (λ (j : ℕ). part text at j) (p .past) ∙ q) (l .stand);
     }
@@ -144,8 +155,8 @@ module _ (text : List ℕ) (issue n : ℕ) (front : List ℕ) (fs bs ms : List (
   abbrev next : ℕ
   next = behind + length (inOrder ms ++ d)
 
-  module _ (g : Segment) (gs : List Segment) (c : Content) (cs : List Content) (b : List ℕ) (blocks : List (List ℕ)) (w : NewBlock issue c b)
-      (r : Replaced text issue n next after gs cs blocks) where
+  module _ (g : Segment) (gs : List Segment) (end : End) (ends : List End) (c : Content) (cs : List Content) (b : List ℕ) (blocks : List (List ℕ))
+      (w : NewBlock issue end c b) (r : Replaced text issue n next after gs ends cs blocks) where
     abbrev new : List (List ℕ)
     new = fs ++ (w .lines ++ (ms ++ (d ∷ r .lines)))
 
@@ -171,7 +182,7 @@ module _ (text : List ℕ) (issue n : ℕ) (front : List ℕ) (fs bs ms : List (
 
     -- the new text's segments
     new-back : All Fair (ms ++ (d ∷ r .lines)) → All (No opens) fs → All (No isEnd) ms → isEnd (bodyOf d) ≡ true → (text′ front′ : List ℕ)
-        → text′ ≡ front′ ++ inOrder new → Listed (suc n) text′ issue (linesAt (length front′) new) (c ∷ cs) (b ∷ blocks)
+        → text′ ≡ front′ ++ inOrder new → Listed (suc n) text′ issue (linesAt (length front′) new) (end ∷ ends) (c ∷ cs) (b ∷ blocks)
     unfolding inOrder
     new-back fair nf nm nd text′ front′ e =
         let tail : List (List ℕ) = ms ++ (d ∷ r .lines) in
@@ -180,7 +191,7 @@ module _ (text : List ℕ) (issue n : ℕ) (front : List ℕ) (fs bs ms : List (
         let here : text′ ≡ front₁ ++ inOrder (w .lines ++ tail) = e ∙ simp (joined-append, append-assoc) in
         let a₁ : text′ ≡ front₁ ++ (b ++ inOrder tail) = e ∙ simp (joined-append, append-assoc, w .are) in
         let k : ℕ = length front₁ + length (inOrder (w .lines)) + length (inOrder ms) in
-        let end : fromFirst isEnd (linesAt (length front₁) (w .lines ++ tail)) ≡ linesAt k (d ∷ r .lines) =
+        let last : fromFirst isEnd (linesAt (length front₁) (w .lines ++ tail)) ≡ linesAt k (d ∷ r .lines) =
         pass isEnd (length front₁) (inert-no-end (w .inert)) tail
         ∙ pass isEnd (length front₁ + length (inOrder (w .lines))) nm (d ∷ r .lines)
         ∙ stop isEnd k d (r .lines) nd in
@@ -189,12 +200,12 @@ module _ (text : List ℕ) (issue n : ℕ) (front : List ℕ) (fs bs ms : List (
         let l₂ : length front₂ ≡ k + length d =
         omega (arith, length-append front₁ (inOrder (w .lines) ++ mid₂), length-append (inOrder (w .lines)) mid₂, length-append (inOrder ms) d) in
         let a₂ : text′ ≡ front₂ ++ inOrder (r .lines) = e ∙ simp (joined-append, append-assoc) in
-        let rest : Listed n text′ issue (linesAt (k + length d) (r .lines)) cs blocks =
-        subst (λ (j : ℕ). Listed n text′ issue (linesAt j (r .lines)) cs blocks) l₂ (r .back text′ front₂ a₂) in
-        listed-from n text′ issue (linesAt (length front′) new) (linesAt (length front₁) (w .lines ++ tail)) (c ∷ cs) (b ∷ blocks)
+        let rest : Listed n text′ issue (linesAt (k + length d) (r .lines)) ends cs blocks =
+        subst (λ (j : ℕ). Listed n text′ issue (linesAt j (r .lines)) ends cs blocks) l₂ (r .back text′ front₂ a₂) in
+        listed-from n text′ issue (linesAt (length front′) new) (linesAt (length front₁) (w .lines ++ tail)) (end ∷ ends) (c ∷ cs) (b ∷ blocks)
         (pass-to opens (length front′) (length front₁) nf (w .lines ++ tail) l₁)
-        (opened-first n text′ issue (length front₁) k (w .lines) tail d (r .lines) c cs b blocks (w .first) (w .back text′ front₁ tail (wholes fair) here)
-        (part-is text′ front₁ b (inOrder tail) (length front₁ + length b) a₁ refl) end rest)
+        (opened-first n text′ issue (length front₁) k (w .lines) tail d (r .lines) end ends c cs b blocks (w .first) (w .ended) (w .back text′ front₁ tail (wholes fair) here)
+        (part-is text′ front₁ b (inOrder tail) (length front₁ + length b) a₁ refl) last rest)
 
     -- where a line that opens a block stands in front, a new block does
     new-first : (fs′ : List (List ℕ)) → All (No opens) fs′ → FirstOpens (fs′ ++ (bs ++ (ms ++ (d ∷ after))))
@@ -207,7 +218,7 @@ module _ (text : List ℕ) (issue n : ℕ) (front : List ℕ) (fs bs ms : List (
     new-first (f ∷ fs′) (all-cons h hs) o = let z : false ≡ true = sym h ∙ o in apart cc
 
     pub replaced-more : All Fair old → All (No opens) fs → All InertLine bs → All (No isEnd) ms → isEnd (bodyOf d) ≡ true
-        → g .start ≡ start → g .block ≡ behind → Replaced text issue (suc n) (length front) old (g ∷ gs) (c ∷ cs) (b ∷ blocks)
+        → g .start ≡ start → g .block ≡ behind → Replaced text issue (suc n) (length front) old (g ∷ gs) (end ∷ ends) (c ∷ cs) (b ∷ blocks)
     replaced-more fair nf ib nm nd es eb =
         record {
           lines = new;

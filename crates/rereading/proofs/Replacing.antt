@@ -10,7 +10,8 @@ use Rattle.laws.proofs.Lists.{all-append, all-right, all-tail}
 use Rattle.laws.specs.Lists.{All}
 use Rattle.refusal.specs.Numbers.{noEnd, ninthSegment}
 use Rattle.refusal.specs.Answer.{ok, refused}
-use Rattle.lines.specs.Lines.{bodyOf, isEnd, opens, linesAt}
+use Rattle.lines.specs.Lines.{bodyOf, endedBy, isEnd, opens, Line, linesAt}
+use Rattle.lines.specs.declared.End.{End}
 use Rattle.codes.specs.Block.{Content}
 use Rattle.codes.specs.Written.{inOrder}
 use Rattle.reading.specs.Placed.{placedAt}
@@ -27,20 +28,20 @@ use Rattle.rereading.proofs.Replaced.{inert-no-end, NewBlocks, no-more,
 module _ (text : List ℕ) (issue : ℕ) where
   -- what these lines give, which stand behind `front`
   abbrev Replaces : ℕ → List ℕ → List (List ℕ) → Type 0
-  Replaces n front ps = (gs : List Segment) (cs : List Content) (blocks : List (List ℕ)) → All Fair ps → text ≡ front ++ inOrder ps
-      → segmentsFrom n text issue (linesAt (length front) ps) ≡ ok gs → length cs ≡ length gs → NewBlocks issue cs blocks
-      → Replaced text issue n (length front) ps gs cs blocks
+  Replaces n front ps = (gs : List Segment) (ends : List End) (cs : List Content) (blocks : List (List ℕ)) → All Fair ps → text ≡ front ++ inOrder ps
+      → segmentsFrom n text issue (linesAt (length front) ps) ≡ ok gs → length cs ≡ length gs → NewBlocks issue ends cs blocks
+      → Replaced text issue n (length front) ps gs ends cs blocks
 
   -- what the lines after a segment give
   abbrev Next : ℕ → Type 0
   Next n = (front : List ℕ) (ps : List (List ℕ)) → Replaces n front ps
 
   -- ---- no segment
-  none-here : (n at : ℕ) (ps : List (List ℕ)) (gs : List Segment) (cs : List Content) (blocks : List (List ℕ)) → All Fair ps → All (No opens) ps → [] ≡ gs
-      → length cs ≡ length gs → NewBlocks issue cs blocks → Replaced text issue n at ps gs cs blocks
-  none-here n at ps [] [] [] f a e l no-more = replaced-none text issue n at f a
-  none-here n at ps [] (c ∷ cs) blocks f a e l ws = impossible (omega arith)
-  none-here n at ps (g ∷ gs) cs blocks f a e l ws = apart cc
+  none-here : (n at : ℕ) (ps : List (List ℕ)) (gs : List Segment) (ends : List End) (cs : List Content) (blocks : List (List ℕ)) → All Fair ps → All (No opens) ps → [] ≡ gs
+      → length cs ≡ length gs → NewBlocks issue ends cs blocks → Replaced text issue n at ps gs ends cs blocks
+  none-here n at ps [] [] [] [] f a e l no-more = replaced-none text issue n at f a
+  none-here n at ps [] ends (c ∷ cs) blocks f a e l ws = impossible (omega arith)
+  none-here n at ps (g ∷ gs) ends cs blocks f a e l ws = apart cc
 
   -- ---- a segment was found, its block, and the line that ends it
   module _ (n : ℕ) (go : Next n) (front : List ℕ) (fs bs ms : List (List ℕ)) (d : List ℕ) (after : List (List ℕ)) where
@@ -56,13 +57,13 @@ module _ (text : List ℕ) (issue : ℕ) where
     abbrev next : ℕ
     next = behind + length (inOrder ms ++ d)
 
-    one-here : (g : Segment) (gs : List Segment) (cs : List Content) (blocks : List (List ℕ)) → All Fair old → text ≡ front ++ inOrder old
+    one-here : (g : Segment) (gs : List Segment) (ends : List End) (cs : List Content) (blocks : List (List ℕ)) → All Fair old → text ≡ front ++ inOrder old
         → All (No opens) fs → All InertLine bs → All (No isEnd) ms → isEnd (bodyOf d) ≡ true → g .start ≡ start → g .block ≡ behind
-        → segmentsFrom n text issue (linesAt next after) ≡ ok gs → length cs ≡ length (g ∷ gs) → NewBlocks issue cs blocks
-        → Replaced text issue (suc n) (length front) old (g ∷ gs) cs blocks
+        → segmentsFrom n text issue (linesAt next after) ≡ ok gs → length cs ≡ length (g ∷ gs) → NewBlocks issue ends cs blocks
+        → Replaced text issue (suc n) (length front) old (g ∷ gs) ends cs blocks
     unfolding inOrder
-    one-here g gs cs blocks f t nf ib nm nd es eb e l no-more = impossible (omega arith)
-    one-here g gs cs blocks f t nf ib nm nd es eb e l (one-more {c} {cs = cs′} {b} {bs = blocks′} w ws) =
+    one-here g gs ends cs blocks f t nf ib nm nd es eb e l no-more = impossible (omega arith)
+    one-here g gs ends cs blocks f t nf ib nm nd es eb e l (one-more {end} {ends = ends′} {c} {cs = cs′} {b} {bs = blocks′} w ws) =
         let mid₂ : List ℕ = inOrder ms ++ d in
         let mid₁ : List ℕ = inOrder bs ++ mid₂ in
         let front₂ : List ℕ = front ++ (inOrder fs ++ mid₁) in
@@ -70,15 +71,15 @@ module _ (text : List ℕ) (issue : ℕ) where
         omega (arith, length-append front (inOrder fs ++ mid₁), length-append (inOrder fs) mid₁, length-append (inOrder bs) mid₂) in
         let a₂ : text ≡ front₂ ++ inOrder after = t ∙ simp (joined-append, append-assoc) in
         let kept : All Fair (d ∷ after) = all-right ms _ (all-right bs _ (all-right fs _ f)) in
-        let r : Replaced text issue n (length front₂) after gs cs′ blocks′ =
-        go front₂ after gs cs′ blocks′ (all-tail kept) a₂ (ap (λ (k : ℕ). segmentsFrom n text issue (linesAt k after)) l₂ ∙ e) (omega arith) ws in
-        replaced-more text issue n front fs bs ms d after g gs c cs′ b blocks′ w
-        (subst (λ (k : ℕ). Replaced text issue n k after gs cs′ blocks′) l₂ r) f nf ib nm nd es eb
+        let r : Replaced text issue n (length front₂) after gs ends′ cs′ blocks′ =
+        go front₂ after gs ends′ cs′ blocks′ (all-tail kept) a₂ (ap (λ (k : ℕ). segmentsFrom n text issue (linesAt k after)) l₂ ∙ e) (omega arith) ws in
+        replaced-more text issue n front fs bs ms d after g gs end ends′ c cs′ b blocks′ w
+        (subst (λ (k : ℕ). Replaced text issue n k after gs ends′ cs′ blocks′) l₂ r) f nf ib nm nd es eb
 
   -- ---- the lines from the first that opens a block on
   module _ (n : ℕ) (go : Next n) (front : List ℕ) (fs : List (List ℕ)) (p : List ℕ) (xs : List (List ℕ)) (f : All Fair (fs ++ (p ∷ xs)))
       (t : text ≡ front ++ inOrder (fs ++ (p ∷ xs))) (nf : All (No opens) fs) (o : opens (bodyOf p) ≡ true)
-      (gs : List Segment) (cs : List Content) (blocks : List (List ℕ)) (l : length cs ≡ length gs) (ws : NewBlocks issue cs blocks) where
+      (gs : List Segment) (ends : List End) (cs : List Content) (blocks : List (List ℕ)) (l : length cs ≡ length gs) (ws : NewBlocks issue ends cs blocks) where
     front₁ : List ℕ
     front₁ = front ++ inOrder fs
 
@@ -90,20 +91,24 @@ module _ (text : List ℕ) (issue : ℕ) where
     unfolding front₁
     text₁ = t ∙ simp (joined-append, append-assoc)
 
+    -- its first line
+    abbrev line₁ : Line
+    line₁ = record { start = length front₁; body = bodyOf p; next = length front₁ + length p; ended = endedBy p }
+
     -- its end
     ended-here : (c : Content) (past : ℕ) (bs rest : List (List ℕ)) → p ∷ xs ≡ bs ++ rest → All InertLine bs
         → past ≡ length front₁ + length (inOrder bs) → Sought isEnd rest
-        → runsTo (length front₁) past c (segmentsFrom n text issue) (fromFirst isEnd (linesAt (length front₁) (p ∷ xs))) ≡ ok gs
-        → Replaced text issue (suc n) (length front) (fs ++ (p ∷ xs)) gs cs blocks
+        → runsTo line₁ past c (segmentsFrom n text issue) (fromFirst isEnd (linesAt (length front₁) (p ∷ xs))) ≡ ok gs
+        → Replaced text issue (suc n) (length front) (fs ++ (p ∷ xs)) gs ends cs blocks
     unfolding linesAt inOrder
     ended-here c past bs rest q ib eb (missing a) e =
         let z : fromFirst isEnd (linesAt (length front₁) (p ∷ xs)) ≡ [] =
         ap (λ (x : List (List ℕ)). fromFirst isEnd (linesAt (length front₁) x)) q ∙ pass-all isEnd (length front₁) (all-append (inert-no-end ib) a) in
-        let w : refused noEnd (length front₁) ≡ ok gs = ap (runsTo (length front₁) past c (segmentsFrom n text issue)) (sym z) ∙ e in
+        let w : refused noEnd (length front₁) ≡ ok gs = ap (runsTo line₁ past c (segmentsFrom n text issue)) (sym z) ∙ e in
         apart cc
     ended-here c past bs rest q ib eb (found ms d after er nm nd) e =
         let k : ℕ = length front₁ + length (inOrder bs) + length (inOrder ms) in
-        let g : Segment = record { start = length front₁; block = past; past = k + length d; content = c } in
+        let g : Segment = record { start = length front₁; block = past; past = k + length d; ended = endedBy p; content = c } in
         let q₂ : p ∷ xs ≡ bs ++ (ms ++ (d ∷ after)) = q ∙ ap (λ (x : List (List ℕ)). bs ++ x) er in
         let z : fromFirst isEnd (linesAt (length front₁) (p ∷ xs)) ≡ linesAt k (d ∷ after) =
         ap (λ (x : List (List ℕ)). fromFirst isEnd (linesAt (length front₁) x)) q₂
@@ -115,16 +120,16 @@ module _ (text : List ℕ) (issue : ℕ) where
         by-then (segmentsFrom n text issue (linesAt (k + length d) after)) _ gs
         (λ gs′ e′ e″.
         let same : g ∷ gs′ ≡ gs = ok-one (g ∷ gs′) gs e″ in
-        subst (λ (x : List (List ℕ)). Replaced text issue (suc n) (length front) (fs ++ x) gs cs blocks) (sym q₂)
-        (subst (λ (x : List Segment). Replaced text issue (suc n) (length front) (fs ++ (bs ++ (ms ++ (d ∷ after)))) x cs blocks) same
-        (one-here n go front fs bs ms d after g gs′ cs blocks
+        subst (λ (x : List (List ℕ)). Replaced text issue (suc n) (length front) (fs ++ x) gs ends cs blocks) (sym q₂)
+        (subst (λ (x : List Segment). Replaced text issue (suc n) (length front) (fs ++ (bs ++ (ms ++ (d ∷ after)))) x ends cs blocks) same
+        (one-here n go front fs bs ms d after g gs′ ends cs blocks
         (subst (λ (x : List (List ℕ)). All Fair (fs ++ x)) q₂ f) (t ∙ ap (λ (x : List (List ℕ)). front ++ inOrder (fs ++ x)) q₂)
         nf ib nm nd long₁ (eb ∙ omega (arith, long₁))
         (ap (λ (i : ℕ). segmentsFrom n text issue (linesAt i after)) j ∙ e′) (l ∙ ap (λ (x : List Segment). length x) (sym same)) ws)))
-        (ap (runsTo (length front₁) past c (segmentsFrom n text issue)) (sym z) ∙ e)
+        (ap (runsTo line₁ past c (segmentsFrom n text issue)) (sym z) ∙ e)
 
     more-here : segmentsFrom (suc n) text issue (linesAt (length front) (fs ++ (p ∷ xs))) ≡ ok gs
-        → Replaced text issue (suc n) (length front) (fs ++ (p ∷ xs)) gs cs blocks
+        → Replaced text issue (suc n) (length front) (fs ++ (p ∷ xs)) gs ends cs blocks
     unfolding segmentsFrom linesAt
     more-here e =
         let lines : fromFirst opens (linesAt (length front) (fs ++ (p ∷ xs))) ≡ linesAt (length front₁) (p ∷ xs) =
@@ -155,10 +160,10 @@ module _ (text : List ℕ) (issue : ℕ) where
   turn : (n : ℕ) (front : List ℕ) (ps : List (List ℕ))
       → ((fs : List (List ℕ)) (p : List ℕ) (xs : List (List ℕ)) → All (No opens) fs → opens (bodyOf p) ≡ true → Replaces n front (fs ++ (p ∷ xs)))
       → Sought opens ps → Replaces n front ps
-  turn n front ps h (missing a) gs cs blocks f t e l ws = none-here n (length front) ps gs cs blocks f a (none-left n (length front) gs a e) l ws
-  turn n front ps h (found fs p xs q nf o) gs cs blocks f t e l ws = subst (Replaces n front) (sym q) (h fs p xs nf o) gs cs blocks f t e l ws
+  turn n front ps h (missing a) gs ends cs blocks f t e l ws = none-here n (length front) ps gs ends cs blocks f a (none-left n (length front) gs a e) l ws
+  turn n front ps h (found fs p xs q nf o) gs ends cs blocks f t e l ws = subst (Replaces n front) (sym q) (h fs p xs nf o) gs ends cs blocks f t e l ws
 
   pub replacing : (n : ℕ) → Next n
-  replacing zero front ps = turn zero front ps (λ fs p xs nf o gs cs blocks f t e l ws. impossible (ninth-no (length front) fs p xs gs nf o e)) (seek opens ps)
+  replacing zero front ps = turn zero front ps (λ fs p xs nf o gs ends cs blocks f t e l ws. impossible (ninth-no (length front) fs p xs gs nf o e)) (seek opens ps)
   replacing (suc n) front ps =
-      turn (suc n) front ps (λ fs p xs nf o gs cs blocks f t e l ws. more-here n (replacing n) front fs p xs f t nf o gs cs blocks l ws e) (seek opens ps)
+      turn (suc n) front ps (λ fs p xs nf o gs ends cs blocks f t e l ws. more-here n (replacing n) front fs p xs f t nf o gs ends cs blocks l ws e) (seek opens ps)

@@ -10,8 +10,9 @@ use lib.Dec.{eqb}
 use borrow.Author.Tests.{eqb-true}
 use Rattle.laws.proofs.Tests.{by}
 use Rattle.laws.specs.Lists.{All, all-nil, all-cons}
-use Rattle.lines.specs.Bytes.{lf}
-use Rattle.lines.specs.Lines.{glue, pieces, bodyOf, linesAt}
+use Rattle.lines.specs.Bytes.{lf, word, exactly}
+use Rattle.lines.specs.Lines.{glue, pieces, lineEnd, bodyOf, endsLine, endNamed, endedBy, Line, linesAt}
+use Rattle.lines.specs.declared.End.{End}
 use Rattle.lines.specs.Check.{lastEnds}
 use Rattle.lines.proofs.Ends.{firstPiece, pieces-first}
 use Rattle.codes.specs.Written.{inOrder}
@@ -97,6 +98,35 @@ pub whole-ends : {ps : List (List ℕ)} → All Whole ps → lastEnds (inOrder p
 unfolding inOrder lastEnds
 whole-ends all-nil = refl
 whole-ends (all-cons {xs = ps} w ws) = ends-whole w (inOrder ps) (whole-ends ws)
+
+-- ---- how a line ended
+abbrev pub EndsWith : End → List ℕ → Type 0
+EndsWith end p = endedBy p ≡ end
+
+-- a whole line ended with one of the three
+named-some : (s : List ℕ) → lineEnd s ≡ true → endsLine (endNamed s) ≡ true
+unfolding lineEnd endNamed
+named-some s e =
+    by (exactly (word "\n") s) (λ p. rw p)
+    λ p. by (exactly (word "\r\n") s) (λ q. rw (p, q))
+    λ q. rw (p, q, let r : exactly (word "\r\r\n") s ≡ true = rw (p, q) at e in r)
+
+pub whole-ended : {p : List ℕ} → Whole p → endsLine (endedBy p) ≡ true
+unfolding endedBy bodyOf lineEnd endNamed exactly
+whole-ended line-end = refl
+whole-ended (line-more {b} {s} h w) =
+    by (lineEnd (b ∷ s)) (λ p. rw p (named-some (b ∷ s) p)) (λ p. rw p (whole-ended w))
+
+-- what is known of each piece's end is known of each line's, and the other way
+pub pieces-lines : (P : End → Type 0) (at : ℕ) {ps : List (List ℕ)} → All (λ (p : List ℕ). P (endedBy p)) ps → All (λ (l : Line). P (l .ended)) (linesAt at ps)
+unfolding linesAt
+pieces-lines P at all-nil = all-nil
+pieces-lines P at (all-cons {x = p} h hs) = all-cons h (pieces-lines P (at + length p) hs)
+
+pub lines-pieces : (P : End → Type 0) (at : ℕ) (ps : List (List ℕ)) → All (λ (l : Line). P (l .ended)) (linesAt at ps) → All (λ (p : List ℕ). P (endedBy p)) ps
+unfolding linesAt
+lines-pieces P at [] a = all-nil
+lines-pieces P at (p ∷ ps) (all-cons h hs) = all-cons h (lines-pieces P (at + length p) ps hs)
 
 -- ---- a search over lines
 -- a line that does not pass the test p

@@ -5,14 +5,18 @@ use mathlib.Core.Path.{_≡_, refl, sym, ap, _∙_, subst}
 use mathlib.Core.Bool.{true}
 use mathlib.Core.List.{List, [], _∷_, _++_, append-assoc}
 use mathlib.Core.Option.{Option, none, some}
-use lib.ListN.{length}
+use lib.ListN.{length, drop}
+use lib.Seq.{drop-append-seam}
 use lib.Dec.{eqb, leb}
 use borrow.Author.Tests.{le-leb, leb-true, ne-eqb}
 use Rattle.laws.proofs.Tests.{by, apart, either-way, and-left}
 use Rattle.laws.proofs.Lists.{all-append, all-map}
 use Rattle.laws.specs.Lists.{All, all-nil, all-cons}
+use Rattle.lines.proofs.Ends.{named-bytes}
 use Rattle.lines.specs.Bytes.{lf, bytes, between, begins}
-use Rattle.lines.specs.Lines.{bodyOf, linesAt}
+use Rattle.lines.specs.Lines.{endBytes, endsLine, endNamed, endedBy, bodyOf, linesAt}
+use Rattle.lines.specs.declared.End.{End}
+use Rattle.lines.specs.declared.End.the-variants.{Lf, CrLf, CrCrLf, Nothing}
 use Rattle.calendar.specs.Calendar.{isTime}
 use Rattle.calendar.specs.declared.Stamp.{Stamp}
 use Rattle.calendar.proofs.Laws.{time-true}
@@ -20,11 +24,11 @@ use Rattle.codes.specs.Places.{twoBytes, threeBytes, prefixBytes, prefixes}
 use Rattle.codes.specs.Elements.{elementsAt, elementsOfBody, covers, purge, wrong}
 use Rattle.codes.specs.Written.{Run, newPrefix, upTo, elementOf, elementsOf, purgeElement}
 use Rattle.codes.specs.Written.{writtenMost, fits, Wrapped, onLine, wrapFrom, wrapped, inOrder, rendered}
-use Rattle.roundtrip.proofs.Split.{Word, crcrlf, endedLines, body-joined, line-elements, first-line}
+use Rattle.roundtrip.proofs.Split.{Word, endedLines, body-joined, line-elements, first-line}
 use Rattle.roundtrip.proofs.Said.{Fine, said-element, said-purge, word-element, word-purge, element-short, purge-short}
 use Rattle.roundtrip.proofs.Fit.{FitLine}
 use Rattle.blocks.specs.Block.{flat}
-use Rattle.rereading.proofs.WholeLines.{Whole, line-end, line-more}
+use Rattle.rereading.proofs.WholeLines.{Whole, line-end, line-more, EndsWith}
 use Rattle.rereading.proofs.Inert.{Inert, InertLine, Front, said-front, front-more, front-inert}
 use Rattle.rereading.proofs.Fair.{clean, Fair}
 
@@ -144,12 +148,6 @@ lined-front : {l : List (List ℕ)} → Lined l → Front (inOrder l)
 unfolding inOrder
 lined-front (lined {l = l} g gs) = front-more (g .front) (inOrder l)
 
-body-lined : {l : List (List ℕ)} → Lined l → bodyOf (inOrder l ++ crcrlf) ≡ inOrder l
-body-lined l = body-joined (all-map (λ e g. g .word) (lined-good l))
-
-pub lined-elements : {l : List (List ℕ)} → Lined l → (at : ℕ) → elementsOfBody at (bodyOf (inOrder l ++ crcrlf)) ≡ elementsAt at l
-lined-elements (lined g gs) at = line-elements (all-map (λ e g. g .word) (all-cons g gs)) at
-
 print-joined : {l : List (List ℕ)} → All Good l → All Print (inOrder l)
 unfolding inOrder
 print-joined all-nil = all-nil
@@ -158,39 +156,74 @@ print-joined (all-cons g gs) = all-append (g .print) (print-joined gs)
 print-high : (b : ℕ) → Print b → 32 ≤ b
 print-high b p = leb-true 32 b (and-left (leb 32 b) (leb b 126) p)
 
-whole-print : {x : List ℕ} → All Print x → Whole (x ++ crcrlf)
-whole-print all-nil = line-more refl (line-more refl line-end)
-whole-print (all-cons {x = b} p a) = let h = print-high b p in line-more (ne-eqb b lf (omega arith)) (whole-print a)
+-- each of the three ends is a whole line's, and its bytes are allowed
+whole-end : (end : End) → endsLine end ≡ true → Whole (endBytes end)
+whole-end Lf so = line-end
+whole-end CrLf so = line-more refl line-end
+whole-end CrCrLf so = line-more refl (line-more refl line-end)
+whole-end Nothing so = apart cc
 
-clean-print : {x : List ℕ} → All Print x → clean (x ++ crcrlf) ≡ true
+clean-end : (end : End) → clean (endBytes end) ≡ true
 unfolding clean begins
-clean-print all-nil = refl
-clean-print (all-cons p a) = rw p (clean-print a)
+clean-end Lf = refl
+clean-end CrLf = refl
+clean-end CrCrLf = refl
+clean-end Nothing = refl
 
--- of all lines
-pub ended-whole : {ls : List (List (List ℕ))} → All Lined ls → All Whole (endedLines ls)
-unfolding endedLines
-ended-whole all-nil = all-nil
-ended-whole (all-cons l ls) = all-cons (whole-print (print-joined (lined-good l))) (ended-whole ls)
+module _ (end : End) where
+  body-lined : {l : List (List ℕ)} → Lined l → bodyOf (inOrder l ++ endBytes end) ≡ inOrder l
+  body-lined l = body-joined end (all-map (λ e g. g .word) (lined-good l))
 
-pub ended-inert : {ls : List (List (List ℕ))} → All Lined ls → All InertLine (endedLines ls)
-unfolding endedLines
-ended-inert all-nil = all-nil
-ended-inert (all-cons {x} l ls) =
-    all-cons (subst (λ (y : List ℕ). Inert y) (sym (body-lined l)) (front-inert (inOrder x) (lined-front l))) (ended-inert ls)
+  pub lined-elements : {l : List (List ℕ)} → Lined l → (at : ℕ) → elementsOfBody at (bodyOf (inOrder l ++ endBytes end)) ≡ elementsAt at l
+  lined-elements (lined g gs) at = line-elements end (all-map (λ e g. g .word) (all-cons g gs)) at
 
-pub ended-fair : (at : ℕ) {ls : List (List (List ℕ))} → All Lined ls → All FitLine (linesAt at (endedLines ls)) → All Fair (endedLines ls)
-unfolding endedLines linesAt
-ended-fair at all-nil all-nil = all-nil
-ended-fair at (all-cons {x} l ls) (all-cons h hs) =
-    let p = print-joined (lined-good l) in
-    let s : length (bodyOf (inOrder x ++ crcrlf)) ≤ 132 = omega arith in
-    all-cons (record { whole = whole-print p; clean = clean-print p; short = s }) (ended-fair (at + length (inOrder x ++ crcrlf)) ls hs)
+  -- the line ended so
+  lined-ended : {l : List (List ℕ)} → Lined l → EndsWith end (inOrder l ++ endBytes end)
+  unfolding endedBy
+  lined-ended {l} w =
+      ap (λ (x : List ℕ). endNamed (drop (length x) (inOrder l ++ endBytes end))) (body-lined w)
+      ∙ ap endNamed (drop-append-seam (inOrder l) (endBytes end))
+      ∙ named-bytes end
 
-pub ended-joined : (ls : List (List (List ℕ))) → inOrder (endedLines ls) ≡ rendered ls
-unfolding endedLines inOrder rendered
-ended-joined [] = refl
-ended-joined (l ∷ ls) = ap (λ (x : List ℕ). (inOrder l ++ crcrlf) ++ x) (ended-joined ls) ∙ append-assoc (inOrder l) crcrlf (rendered ls)
+  pub ended-ends : {ls : List (List (List ℕ))} → All Lined ls → All (EndsWith end) (endedLines end ls)
+  unfolding endedLines
+  ended-ends all-nil = all-nil
+  ended-ends (all-cons l ls) = all-cons (lined-ended l) (ended-ends ls)
+
+  pub ended-inert : {ls : List (List (List ℕ))} → All Lined ls → All InertLine (endedLines end ls)
+  unfolding endedLines
+  ended-inert all-nil = all-nil
+  ended-inert (all-cons {x} l ls) =
+      all-cons (subst (λ (y : List ℕ). Inert y) (sym (body-lined l)) (front-inert (inOrder x) (lined-front l))) (ended-inert ls)
+
+  pub ended-joined : (ls : List (List (List ℕ))) → inOrder (endedLines end ls) ≡ rendered end ls
+  unfolding endedLines inOrder rendered
+  ended-joined [] = refl
+  ended-joined (l ∷ ls) = ap (λ (x : List ℕ). (inOrder l ++ endBytes end) ++ x) (ended-joined ls) ∙ append-assoc (inOrder l) (endBytes end) (rendered end ls)
+
+  clean-print : {x : List ℕ} → All Print x → clean (x ++ endBytes end) ≡ true
+  unfolding clean begins
+  clean-print all-nil = clean-end end
+  clean-print (all-cons p a) = rw p (clean-print a)
+
+  -- where it ends at all, the line is whole
+  module _ (so : endsLine end ≡ true) where
+    whole-print : {x : List ℕ} → All Print x → Whole (x ++ endBytes end)
+    whole-print all-nil = whole-end end so
+    whole-print (all-cons {x = b} p a) = let h = print-high b p in line-more (ne-eqb b lf (omega arith)) (whole-print a)
+
+    pub ended-whole : {ls : List (List (List ℕ))} → All Lined ls → All Whole (endedLines end ls)
+    unfolding endedLines
+    ended-whole all-nil = all-nil
+    ended-whole (all-cons l ls) = all-cons (whole-print (print-joined (lined-good l))) (ended-whole ls)
+
+    pub ended-fair : (at : ℕ) {ls : List (List (List ℕ))} → All Lined ls → All FitLine (linesAt at (endedLines end ls)) → All Fair (endedLines end ls)
+    unfolding endedLines linesAt
+    ended-fair at all-nil all-nil = all-nil
+    ended-fair at (all-cons {x} l ls) (all-cons h hs) =
+        let p = print-joined (lined-good l) in
+        let s : length (bodyOf (inOrder x ++ endBytes end)) ≤ 132 = omega arith in
+        all-cons (record { whole = whole-print p; clean = clean-print p; short = s }) (ended-fair (at + length (inOrder x ++ endBytes end)) ls hs)
 
 -- ---- of a block
 pub spans-lined : (s : Stamp) → isTime s ≡ true → {rs : List Run} → All Fine rs → All Lined (wrapped (elementsOf none rs ++ (purgeElement s ∷ [])))

@@ -1,4 +1,4 @@
--- Document 02, R-1: what is proved of the rule of the call that writes the edited bulletin out. A reader must believe these notions to believe its laws.
+-- Document 02, R-1 with R-5: what is proved of the rule of the call that writes the edited bulletin out. A reader must believe these notions to believe its laws.
 use Prim.Native.Nat.{ℕ, _≤_, _<_, suc}
 use mathlib.Core.Path.{_≡_}
 use mathlib.Core.Bool.{true, false, _&&_}
@@ -9,7 +9,9 @@ use lib.Dec.{eqb}
 use Rattle.laws.specs.Lists.{All}
 use Rattle.refusal.specs.Numbers.{wrongLength, notSound, outputShort, notBelonging}
 use Rattle.refusal.specs.Answer.{Answer, ok, no, refused}
+use Rattle.lines.specs.Lines.{Line, linesOf}
 use Rattle.lines.specs.Spans.{part}
+use Rattle.lines.specs.declared.End.{End}
 use Rattle.calendar.specs.Calendar.{dateOf}
 use Rattle.calendar.specs.declared.Date.{Date}
 use Rattle.codes.specs.Block.{Content}
@@ -21,7 +23,7 @@ use Rattle.steps.specs.Book.{Book, newBook}
 use Rattle.layout.specs.Layout.{bytesOf, bookOf}
 use Rattle.layout.specs.Tests.{isSound}
 use Rattle.making.specs.Make.{makeRule}
-use Rattle.forms.specs.Edited.{edited, writtenForms}
+use Rattle.forms.specs.Edited.{edited, endsIn, writtenForms}
 use Rattle.sending.specs.Send.{belongs}
 
 -- ---- reading what was written out
@@ -29,12 +31,12 @@ use Rattle.sending.specs.Send.{belongs}
 abbrev pub blockText : List ℕ → Segment → List ℕ
 blockText text g = part text (g .start) (g .block)
 
--- it is the written form of the segment's content
+-- it is the written form of the segment's content, its lines ending as its first line did
 abbrev pub InWrittenForm : List ℕ → Segment → Type 0
-InWrittenForm text g = writtenBlock (g .content .places) (g .content .purge) ≡ ok (blockText text g)
+InWrittenForm text g = writtenBlock (g .ended) (g .content .places) (g .content .purge) ≡ ok (blockText text g)
 
--- The text reads to the heading, the identifier, the issue and the storm of r, and to as many segments. They have the contents cs, and each block is in
--- written form.
+-- The text reads to the heading, the identifier, the issue and the storm of r, and to as many segments. They have the contents cs, their blocks' first lines
+-- end as those of r did, and each block is in written form.
 pub record ReadsTo (text : List ℕ) (year month : ℕ) (r : Bulletin) (cs : List Content) : Type 0 where
   pub bulletin : Bulletin
   pub reads : readBulletin text year month ≡ ok bulletin
@@ -44,6 +46,7 @@ pub record ReadsTo (text : List ℕ) (year month : ℕ) (r : Bulletin) (cs : Lis
   pub storm : bulletin .storm ≡ r .storm
   pub count : length (bulletin .segments) ≡ length (r .segments)
   pub contents : map (λ (g : Segment). g .content) (bulletin .segments) ≡ cs
+  pub ends : endsIn (bulletin .segments) ≡ endsIn (r .segments)
   pub forms : All (InWrittenForm text) (bulletin .segments)
 
 -- "it belongs to the book if it reads, and its issue and segment count agree"
@@ -54,7 +57,7 @@ pub record Agrees (b : Book) (r : Bulletin) : Type 0 where
 -- "Demand 2 gains: reading the output gives the book's sets and purge minutes, if the output is within 16,384 bytes." Of any contents:
 pub record EditedReads (text : List ℕ) (year month : ℕ) (r : Bulletin) (cs : List Content) : Type 0 where
   pub blocks : List (List ℕ)
-  pub given : writtenForms cs ≡ ok blocks
+  pub given : writtenForms (endsIn (r .segments)) cs ≡ ok blocks
   pub reads : length (edited text (r .segments) blocks) ≤ textMost → ReadsTo (edited text (r .segments) blocks) year month r cs
 
 -- and of what the call gives for the bytes l of a book: under the year and month of the book's issue the text reads, and the output reads to the same
@@ -67,6 +70,15 @@ pub record WrittenReads (text l out : List ℕ) : Type 0 where
   pub agrees : Agrees (bookOf l) read
   pub again : ReadsTo out (date .year) (date .month) read (bookOf l .segments)
 
+-- ---- line ends
+-- every line of the text ended so
+abbrev pub OnlyEnd : End → List ℕ → Type 0
+OnlyEnd end text = All (λ (l : Line). l .ended ≡ end) (linesOf text)
+
+-- R-5, "an output that mixes line ends upsets" the gateways: a text that has only LF comes out with only LF, and so for CR LF and CR CR LF.
+abbrev pub KeepsEnd : List ℕ → List ℕ → Type 0
+KeepsEnd text out = (end : End) → OnlyEnd end text → OnlyEnd end out
+
 -- ---- the answers
 -- the book is sound, the text reads under its year and month and belongs to it, and out is the text with the book's written forms in it
 pub record EditedText (text l out : List ℕ) : Type 0 where
@@ -77,7 +89,7 @@ pub record EditedText (text l out : List ℕ) : Type 0 where
   pub reads : readBulletin text (date .year) (date .month) ≡ ok read
   pub agrees : Agrees (bookOf l) read
   pub blocks : List (List ℕ)
-  pub given : writtenForms (bookOf l .segments) ≡ ok blocks
+  pub given : writtenForms (endsIn (read .segments)) (bookOf l .segments) ≡ ok blocks
   pub is : out ≡ edited text (read .segments) blocks
 
 -- "Refusals: 1 for either length, 12, reading's own, 27 (does not belong), 23 last": what the call answers, and no other number

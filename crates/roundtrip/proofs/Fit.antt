@@ -2,16 +2,18 @@
 use Prim.Native.Nat.{ℕ, _+_, _/_, _≤_}
 use native.Mathlib.Omega.{arith}
 use mathlib.Core.Path.{_≡_, sym, ap, _∙_}
+use mathlib.Core.Bool.{true}
 use mathlib.Core.List.{List, [], _∷_, _++_, append-nil}
 use mathlib.Core.Option.{Option, some}
 use lib.ListN.{length, length-append}
 use borrow.Author.Tests.{leb-true}
 use Rattle.laws.proofs.Tests.{by}
 use Rattle.laws.specs.Lists.{All, all-nil, all-cons}
-use Rattle.lines.specs.Lines.{pieces, bodyOf, Line, linesAt, linesFrom}
+use Rattle.lines.specs.Lines.{endBytes, pieces, bodyOf, Line, linesAt, linesFrom, endsLine}
+use Rattle.lines.specs.declared.End.{End}
 use Rattle.calendar.specs.declared.Stamp.{Stamp}
 use Rattle.codes.specs.Written.{Run, elementsOf, purgeElement, writtenMost, fits, Wrapped, wrapFrom, wrapped, inOrder, rendered}
-use Rattle.roundtrip.proofs.Split.{Word, crcrlf, endedLines, body-joined, wrap-words, lines-rendered}
+use Rattle.roundtrip.proofs.Split.{Word, endedLines, body-joined, wrap-words, lines-rendered}
 use Rattle.roundtrip.proofs.Said.{element-short, purge-short}
 
 -- ---- the elements
@@ -46,19 +48,20 @@ wrap-fits n h (all-cons {x = e} {xs = es} k s) =
 abbrev pub FitLine : Line → Type 0
 FitLine l = length (l .body) ≤ writtenMost
 
-ended-fit : (at : ℕ) {ls : List (List (List ℕ))} → All (All Word) ls → All Fit ls → All FitLine (linesAt at (endedLines ls))
-unfolding linesAt endedLines
-ended-fit at all-nil all-nil = all-nil
-ended-fit at (all-cons {x = l} w ws) (all-cons f fs) =
-    let g : length (bodyOf (inOrder l ++ crcrlf)) ≤ writtenMost = rw (body-joined w) f in
-    all-cons g (ended-fit _ ws fs)
+module _ (end : End) where
+  ended-fit : (at : ℕ) {ls : List (List (List ℕ))} → All (All Word) ls → All Fit ls → All FitLine (linesAt at (endedLines end ls))
+  unfolding linesAt endedLines
+  ended-fit at all-nil all-nil = all-nil
+  ended-fit at (all-cons {x = l} w ws) (all-cons f fs) =
+      let g : length (bodyOf (inOrder l ++ endBytes end)) ≤ writtenMost = rw (body-joined end w) f in
+      all-cons g (ended-fit _ ws fs)
 
-pub rendered-fit : (at : ℕ) {es : List (List ℕ)} → All Word es → All Short es → All FitLine (linesFrom at (rendered (wrapped es)))
-unfolding pieces
-rendered-fit at {es} ws ss =
-    let v = wrap-words 0 ws in
-    let r = wrap-fits 0 (omega arith) ss in
-    let f : Fit (wrapFrom 0 es .line) = omega (arith, r .now) in
-    let e : linesFrom at (rendered (wrapped es)) ≡ linesAt at (endedLines (wrapped es)) =
-    ap (linesFrom at) (sym (append-nil (rendered (wrapped es)))) ∙ lines-rendered at [] ws ∙ ap (linesAt at) (append-nil (endedLines (wrapped es))) in
-    rw e (ended-fit at (all-cons (v .now) (v .later)) (all-cons f (r .later)))
+  pub rendered-fit : endsLine end ≡ true → (at : ℕ) {es : List (List ℕ)} → All Word es → All Short es → All FitLine (linesFrom at (rendered end (wrapped es)))
+  unfolding pieces
+  rendered-fit so at {es} ws ss =
+      let v = wrap-words 0 ws in
+      let r = wrap-fits 0 (omega arith) ss in
+      let f : Fit (wrapFrom 0 es .line) = omega (arith, r .now) in
+      let e : linesFrom at (rendered end (wrapped es)) ≡ linesAt at (endedLines end (wrapped es)) =
+      ap (linesFrom at) (sym (append-nil (rendered end (wrapped es)))) ∙ lines-rendered end so at [] ws ∙ ap (linesAt at) (append-nil (endedLines end (wrapped es))) in
+      rw e (ended-fit at (all-cons (v .now) (v .later)) (all-cons f (r .later)))

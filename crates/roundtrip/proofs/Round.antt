@@ -8,12 +8,14 @@ use mathlib.Core.Option.{Option, none}
 use borrow.Author.Tests.{lt-leb}
 use Rattle.laws.specs.Lists.{All, all-nil, all-cons}
 use Rattle.laws.proofs.Lists.{all-map}
+use Rattle.lines.specs.declared.End.{End}
 use Rattle.calendar.specs.Calendar.{isTime}
 use Rattle.calendar.specs.declared.Stamp.{Stamp}
 use Rattle.codes.specs.Places.{Ascending}
 use Rattle.codes.specs.Elements.{Element, elementsFrom}
 use Rattle.codes.specs.Block.{block, readFrom, Stretch, stretchOf, coveredBefore, twiceFrom}
 use Rattle.codes.specs.Written.{Run, runsOf, spansOf, elementsOf, purgeElement, blockElements, wrapped, rendered, written}
+use Rattle.lines.specs.Lines.{endsLine}
 use Rattle.roundtrip.proofs.Split.{Starts, last-one, next-one, starts-nothing, starts-rendered}
 use Rattle.roundtrip.proofs.Said.{element-short, purge-short}
 use Rattle.roundtrip.proofs.Runs.{placesOf, spans-places, spans-fine, Reads, stops, goes, reads-nothing, words-spans, reads-spans, Rising, rising-end, rising-on, rising-nothing, rising-spans}
@@ -46,18 +48,7 @@ once-starts (next-one {e} {es} x t) (rising-on {l} p n m a h k r) {before} u =
     let free : coveredBefore (stretchOf p n m) before ≡ false = above-free (stretchOf p n m) (all-map (λ b g. omega arith) u) in
     twice-covers l before e es p n m (rw x a) ∙ rw free (once-starts t r (all-cons {x = stretchOf p n m} (omega arith) (all-map (λ b g. omega arith) u)))
 
--- ---- what is written begins with its elements
-spans-start : (at : ℕ) (s : Stamp) (rest : List ℕ) (rs : List Run)
-    → Starts (elementsOf none rs ++ (purgeElement s ∷ [])) (elementsFrom at (rendered (wrapped (elementsOf none rs ++ (purgeElement s ∷ []))) ++ rest))
-unfolding elementsOf
-spans-start at s rest [] = starts-rendered at rest (purge-short s) (words-spans s none [])
-spans-start at s rest (r ∷ rs) = starts-rendered at rest (element-short none r) (words-spans s none (r ∷ rs))
-
-pub written-starts : (at : ℕ) (ps rest : List ℕ) (s : Stamp) → Starts (blockElements ps s) (elementsFrom at (written ps s ++ rest))
-unfolding written blockElements
-written-starts at ps rest s = spans-start at s rest (spansOf (runsOf ps))
-
--- and they say the places and the purge
+-- ---- the elements of what is written say the places and the purge
 pub written-reads : (ps : List ℕ) (s : Stamp) → Ascending 0 ps → isTime s ≡ true → Reads s ps none [] (blockElements ps s)
 unfolding blockElements
 written-reads ps s a t =
@@ -69,6 +60,18 @@ written-rising : (ps : List ℕ) (s : Stamp) → Ascending 0 ps → isTime s ≡
 unfolding blockElements
 written-rising ps s a t = rising-spans s t none (spans-fine a) (rw (spans-places ps) a)
 
--- The written form never repeats a place.
-pub written-once : (at : ℕ) (ps rest : List ℕ) (s : Stamp) → Ascending 0 ps → isTime s ≡ true → twiceFrom none [] (elementsFrom at (written ps s ++ rest)) ≡ none
-written-once at ps rest s a t = once-starts (written-starts at ps rest s) (written-rising ps s a t) all-nil
+-- ---- what is written, its lines ending so, begins with them
+module _ (end : End) (so : endsLine end ≡ true) where
+  spans-start : (at : ℕ) (s : Stamp) (rest : List ℕ) (rs : List Run)
+      → Starts (elementsOf none rs ++ (purgeElement s ∷ [])) (elementsFrom at (rendered end (wrapped (elementsOf none rs ++ (purgeElement s ∷ []))) ++ rest))
+  unfolding elementsOf
+  spans-start at s rest [] = starts-rendered end so at rest (purge-short s) (words-spans s none [])
+  spans-start at s rest (r ∷ rs) = starts-rendered end so at rest (element-short none r) (words-spans s none (r ∷ rs))
+
+  pub written-starts : (at : ℕ) (ps rest : List ℕ) (s : Stamp) → Starts (blockElements ps s) (elementsFrom at (written end ps s ++ rest))
+  unfolding written blockElements
+  written-starts at ps rest s = spans-start at s rest (spansOf (runsOf ps))
+
+  -- The written form never repeats a place.
+  pub written-once : (at : ℕ) (ps rest : List ℕ) (s : Stamp) → Ascending 0 ps → isTime s ≡ true → twiceFrom none [] (elementsFrom at (written end ps s ++ rest)) ≡ none
+  written-once at ps rest s a t = once-starts (written-starts at ps rest s) (written-rising ps s a t) all-nil

@@ -13,7 +13,8 @@ use Rattle.laws.proofs.Tests.{by, apart}
 use Rattle.laws.proofs.Lists.{all-at}
 use Rattle.refusal.specs.Numbers.{tooManyPlaces}
 use Rattle.refusal.specs.Answer.{ok, refused}
-use Rattle.lines.specs.Lines.{Line, linesFrom}
+use Rattle.lines.specs.Lines.{Line, linesFrom, endsLine}
+use Rattle.lines.specs.declared.End.{End}
 use Rattle.calendar.specs.Calendar.{isTime}
 use Rattle.calendar.specs.Purge.{purgeOf}
 use Rattle.calendar.proofs.Laws.{purge-time}
@@ -29,22 +30,23 @@ use Rattle.roundtrip.proofs.Covered.{Told, told, covered-in, in-covered
 use Rattle.roundtrip.proofs.Opens.{Opening, spans-open}
 use Rattle.roundtrip.proofs.Round.{read-starts, written-starts, written-reads, written-once}
 
--- ---- the round trip
--- What is written of strictly ascending places and of a DDHHMM in its ranges is read back as just these, wherever it stands and whatever follows it; z is the place of its purge element.
-pub round-trip : (stop at : ℕ) (ps rest : List ℕ) (s : Stamp) → Ascending 0 ps → isTime s ≡ true → (z : ℕ) × (readAt stop at (written ps s ++ rest) ≡ block ps s z)
-round-trip stop at ps rest s a t = read-starts stop (written-starts at ps rest s) (written-reads ps s a t)
+-- ---- the round trip, for each of the three line ends
+module _ (end : End) (so : endsLine end ≡ true) where
+  -- What is written of strictly ascending places and of a DDHHMM in its ranges is read back as just these, wherever it stands and whatever follows it; z is the place of its purge element.
+  pub round-trip : (stop at : ℕ) (ps rest : List ℕ) (s : Stamp) → Ascending 0 ps → isTime s ≡ true → (z : ℕ) × (readAt stop at (written end ps s ++ rest) ≡ block ps s z)
+  round-trip stop at ps rest s a t = read-starts stop (written-starts end so at ps rest s) (written-reads ps s a t)
 
--- A segment of at most 120 places is read back from its written block, with the purge minute that its DDHHMM gives under the issue, from any place of a text.
-pub content-round-trip : (front ps rest : List ℕ) (issue t : ℕ) (s : Stamp) → Ascending 0 ps → length ps ≤ capacity → purgeOf issue s ≡ some t
-    → contentAt (front ++ (written ps s ++ rest)) issue (length front) ≡ ok (record { purge = t; places = ps })
-unfolding contentAt readBlock twiceAt
-content-round-trip front ps rest issue t s a few e =
-    let text : List ℕ = front ++ (written ps s ++ rest) in
-    let r = round-trip (length text) (length front) ps rest s a (purge-time issue s t e) in
-    ap (λ (x : List ℕ). contentIn issue (length front) (twiceFrom none [] (elementsFrom (length front) x)) (readAt (length text) (length front) x))
-    (drop-append-seam front (written ps s ++ rest))
-    ∙ ap₂ (contentIn issue (length front)) (written-once (length front) ps rest s a (purge-time issue s t e)) (r .1)
-    ∙ rw (e, le-leb (length ps) capacity few)
+  -- A segment of at most 120 places is read back from its written block, with the purge minute that its DDHHMM gives under the issue, from any place of a text.
+  pub content-round-trip : (front ps rest : List ℕ) (issue t : ℕ) (s : Stamp) → Ascending 0 ps → length ps ≤ capacity → purgeOf issue s ≡ some t
+      → contentAt (front ++ (written end ps s ++ rest)) issue (length front) ≡ ok (record { purge = t; places = ps })
+  unfolding contentAt readBlock twiceAt
+  content-round-trip front ps rest issue t s a few e =
+      let text : List ℕ = front ++ (written end ps s ++ rest) in
+      let r = round-trip (length text) (length front) ps rest s a (purge-time issue s t e) in
+      ap (λ (x : List ℕ). contentIn issue (length front) (twiceFrom none [] (elementsFrom (length front) x)) (readAt (length text) (length front) x))
+      (drop-append-seam front (written end ps s ++ rest))
+      ∙ ap₂ (contentIn issue (length front)) (written-once end so (length front) ps rest s a (purge-time issue s t e)) (r .1)
+      ∙ rw (e, le-leb (length ps) capacity few)
 
 -- ---- "A place is addressed exactly if some element covers it"
 pub covered : (stop at : ℕ) (text ps : List ℕ) (s : Stamp) (z : ℕ) → readAt stop at text ≡ block ps s z → Addressed ps at text
@@ -87,12 +89,13 @@ accepted text issue start c e = go (twiceAt text start) refl (readBlock text sta
     go none w (block ps s z) q e = date w ps s z (purgeOf issue s) q (covered (length text) start (drop start text) ps s z q .ascending) refl e
 
 -- ---- the written block in a product
--- What is written of one place or more opens a block, and so does its first line.
-pub written-opens : (at p : ℕ) (ps rest : List ℕ) (s : Stamp) → Ascending 0 (p ∷ ps) → Opening at (written (p ∷ ps) s ++ rest)
-unfolding written blockElements placesOf
-written-opens at p ps rest s a = spans-open at rest s (spans-fine a) (λ e. let q : [] ≡ p ∷ ps = sym (ap placesOf e) ∙ spans-places (p ∷ ps) in apart cc)
+module _ (end : End) (so : endsLine end ≡ true) where
+  -- What is written of one place or more opens a block, and so does its first line.
+  pub written-opens : (at p : ℕ) (ps rest : List ℕ) (s : Stamp) → Ascending 0 (p ∷ ps) → Opening at (written end (p ∷ ps) s ++ rest)
+  unfolding written blockElements placesOf
+  written-opens at p ps rest s a = spans-open end so at rest s (spans-fine a) (λ e. let q : [] ≡ p ∷ ps = sym (ap placesOf e) ∙ spans-places (p ∷ ps) in apart cc)
 
--- No line of what is written has more than 66 bytes.
-pub lines-fit : (at : ℕ) (ps : List ℕ) (s : Stamp) (l : Line) → List·Memᴰ l (linesFrom at (written ps s)) → length (l .body) ≤ 66
-unfolding written blockElements
-lines-fit at ps s l m = all-at (rendered-fit at (words-spans s none (spansOf (runsOf ps))) (short-spans s none (spansOf (runsOf ps)))) m
+  -- No line of what is written has more than 66 bytes.
+  pub lines-fit : (at : ℕ) (ps : List ℕ) (s : Stamp) (l : Line) → List·Memᴰ l (linesFrom at (written end ps s)) → length (l .body) ≤ 66
+  unfolding written blockElements
+  lines-fit at ps s l m = all-at (rendered-fit end so at (words-spans s none (spansOf (runsOf ps))) (short-spans s none (spansOf (runsOf ps)))) m

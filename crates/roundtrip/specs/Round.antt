@@ -8,16 +8,17 @@ use lib.ListN.{length, drop}
 use Rattle.refusal.specs.Answer.{ok}
 use Rattle.lines.specs.Bytes.{begins}
 use Rattle.lines.specs.Lines.{prefixForm, opens, Line, linesFrom}
+use Rattle.lines.specs.declared.End.{End}
 use Rattle.codes.specs.Places.{prefixOf, placeOf, Ascending}
 use Rattle.codes.specs.Elements.{Element, elementsFrom, said, covers}
 use Rattle.codes.specs.Block.{Covered, Content, contentAt}
 use Rattle.writing.specs.Write.{writtenBlock}
 
 -- ---- the round trip
--- The writer's rule gives a block of the content c, and wherever that stands and whatever follows it, it reads back to just c under the issue.
-pub record ReadsBack (issue : ℕ) (c : Content) : Type 0 where
+-- The writer's rule gives a block of the content c, its lines ending so, and wherever that stands and whatever follows it, it reads back to just c under the issue.
+pub record ReadsBack (end : End) (issue : ℕ) (c : Content) : Type 0 where
   pub block : List ℕ
-  pub given : writtenBlock (c .places) (c .purge) ≡ ok block
+  pub given : writtenBlock end (c .places) (c .purge) ≡ ok block
   pub back : (front rest : List ℕ) → contentAt (front ++ (block ++ rest)) issue (length front) ≡ ok c
 
 -- ---- "A place is addressed exactly if some element covers it"

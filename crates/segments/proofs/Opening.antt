@@ -19,7 +19,7 @@ use Rattle.lines.specs.declared.Lined.{Lined}
 use Rattle.lines.specs.declared.Lined.the-variants as lined
 use Rattle.segments.specs.Search.{fromFirst}
 use Rattle.segments.specs.Searching.{mayOpen, mayOpenTo, linesOn, foundLines, Inside}
-use Rattle.segments.specs.declared.Found.the-variants.{At}
+use Rattle.segments.specs.declared.Found.the-variants as found
 use Rattle.segments.proofs.Seeking.{Seeks, seeks-here, seeks-in, seeks-on, seeks-less}
 
 -- ---- seven bytes, each of which may stand where it does
@@ -113,12 +113,12 @@ module _ (s : List ℕ) (from at : ℕ) (v : Seeks opens s from at) (f : Lined) 
   pub opening-less : length s - l .next < length s - at
   opening-less = seeks-less opens s from at v f e l z line el (opens line) refl
 
-  pub opening-in : Inside s from (At at)
+  pub opening-in : Inside s from (found.Line l)
   opening-in = seeks-in opens s from at v f e l z line el (opens line) refl
 
   module _ (k : ℕ) (w : Fitting line k) (t : Bool) (et : t ≡ mayOpen line k) where
     pub opening-on : t ≡ false → Seeks opens s from (l .next)
     opening-on n = seeks-on opens s from at v f e l z line el (opens line) refl (sym (fitting-none line k w t et n))
 
-    pub opening-here : t ≡ true → k + 1 ≡ 7 → foundLines s (At at) ≡ fromFirst opens (linesOn s from)
+    pub opening-here : t ≡ true → k + 1 ≡ 7 → foundLines s (found.Line l) ≡ fromFirst opens (linesOn s from)
     opening-here y q = seeks-here opens s from at v f e l z line el (opens line) refl (sym (fitting-all line k w t et y q))

@@ -13,12 +13,12 @@ use Rattle.laws.proofs.Tests.{by, by-order, impossible, apart, either-way, and-
 use Rattle.refusal.specs.Answer.{ok}
 use Rattle.lines.specs.Bytes.{lf, begins, exactly}
 use Rattle.lines.specs.Lines.{pieces, lineEnd, bodyOf, Line, isEnd}
-use Rattle.lines.specs.Spans.{part, endingOf}
+use Rattle.lines.specs.Spans.{part}
 use Rattle.lines.proofs.Ends.{firstPiece, pieces-first, first-length, first-at, nextOf, next-last, next-more, lineAt, lines-step, lines-last}
 use Rattle.calendar.specs.declared.Stamp.{Stamp}
 use Rattle.codes.specs.Elements.{Element, dash, null, elementsAt, elementsOfBody, elementsFrom, Said, covers, purge, wrong, numbers, short, said}
 use Rattle.codes.specs.Block.{Read, block, wrongAt, ended, insertCovered, readFrom, readBlock}
-use Rattle.codes.specs.Cursor.{afterEnd, pastEnd, lastOfLine}
+use Rattle.codes.specs.Cursor.{pastEnd, lastOfLine}
 use Rattle.codes.proofs.Turns.{read-covers, read-purge, read-wrong}
 use Rattle.codes.proofs.Steps.{bodyAt, elements-step, elements-last, runs}
 use Rattle.reading.specs.Placed.{purgePlace}
@@ -75,10 +75,6 @@ ended-at : (t : Bool) (r : Read) (next : ℕ) (ps : List ℕ) (u : Stamp) (at : 
 ended-at true r next ps u at e = e
 ended-at false r next ps u at e = apart cc
 
-past-low : (after : ℕ) (o : Option ℕ) → after ≤ afterEnd after o
-past-low after none = omega arith
-past-low after (some k) = omega arith
-
 in-block : (s : List ℕ) (stop : ℕ) (last : Option ℕ) (got : List ℕ) (es : List Element) (a : ℕ) → es ≡ elementsFrom a (drop a s)
     → (ps : List ℕ) (u : Stamp) (at : ℕ) → readFrom stop last got es ≡ block ps u at → Behind s a at
 unfolding readFrom
@@ -91,7 +87,7 @@ in-block s stop last got (e ∷ es) a q ps u at r =
     let rest : es ≡ elementsFrom (pastEnd s (x .0)) (drop (pastEnd s (x .0)) s) = cc in
     let first : e ≡ record { at = a; bytes = part s a (x .0); last = lastOfLine s (x .0) } = cc in
     let here : e .at ≡ a = λ i. first i .at in
-    go h here (pastEnd s (x .0)) (omega (arith, x .1 .low, past-low (x .0) (endingOf (drop (x .0) s)))) (λ p n m f. in-block s stop (some p) (insertCovered p n m got) es (pastEnd s (x .0)) rest ps u at f) (said last (e .bytes)) refl)
+    go h here (pastEnd s (x .0)) (omega (arith, x .1 .low)) (λ p n m f. in-block s stop (some p) (insertCovered p n m got) es (pastEnd s (x .0)) rest ps u at f) (said last (e .bytes)) refl)
     (λ h. let w : e ∷ es ≡ [] = q ∙ elements-last s a h in apart cc)
   where
     go : a < length s → e .at ≡ a → (b : ℕ) → a ≤ b → ((p n m : ℕ) → readFrom stop (some p) (insertCovered p n m got) es ≡ block ps u at → Behind s b at)

@@ -10,14 +10,14 @@ use Rattle.lines.specs.Spans.{spanAt, paperLined, part}
 use Rattle.lines.specs.declared.Span.{Span}
 use Rattle.lines.specs.declared.Lined.{Lined}
 use Rattle.lines.specs.declared.Lined.the-variants as lined
-use Rattle.lines.proofs.Ends.{endOf, nextOf, next-within, next-more, next-last, part-body, lineAt, lines-step, lines-last, span-here, span-none, found-none, found-here, found-end, found-next}
+use Rattle.lines.proofs.Ends.{endOf, nextOf, next-within, next-more, next-last, part-body, lineAt, lines-step, lines-last, span-here, span-none, found-none, found-here, found-start, found-again, found-end, found-next, span-inside, span-next}
 use Rattle.segments.specs.Search.{fromFirst, afterFirst, closes}
-use Rattle.segments.specs.Searching.{testOf, linesOn, foundLines, Inside, nextIn}
+use Rattle.segments.specs.Searching.{testOf, linesOn, foundLines, LineFrom, Inside, nextIn}
 use Rattle.heading.specs.Storm.{isOffice}
 use Rattle.segments.specs.declared.Sought.{Sought}
 use Rattle.segments.specs.declared.Sought.the-variants.{OfficeOrClose}
 use Rattle.segments.specs.declared.Found.{Found}
-use Rattle.segments.specs.declared.Found.the-variants.{At, Nothing}
+use Rattle.segments.specs.declared.Found.the-variants as found
 
 -- the place after a line
 pub next-is : (s : List ℕ) (at : ℕ) → nextIn at (spanAt s at) ≡ nextOf s at
@@ -42,7 +42,7 @@ pub seeks-start : (p : List ℕ → Bool) (s : List ℕ) (from : ℕ) → Seeks 
 seeks-start p s from = record { low = omega arith; same = refl }
 
 module _ (p : List ℕ → Bool) (s : List ℕ) (from at : ℕ) (v : Seeks p s from at) where
-  pub seeks-none : (f : Lined) → paperLined f ≡ spanAt s at → f ≡ lined.Nothing → foundLines s Nothing ≡ fromFirst p (linesOn s from)
+  pub seeks-none : (f : Lined) → paperLined f ≡ spanAt s at → f ≡ lined.Nothing → foundLines s found.Nothing ≡ fromFirst p (linesOn s from)
   unfolding fromFirst
   seeks-none f e q = sym (v .same ∙ ap (fromFirst p) (lines-last s at (found-none s at f e q)))
 
@@ -56,11 +56,11 @@ module _ (p : List ℕ → Bool) (s : List ℕ) (from at : ℕ) (v : Seeks p s f
         let q : p (lineAt s at .body) ≡ t = ap p (sym (body-of s at f e l z line el)) ∙ sym et in
         ap (fromFirst p) (lines-step s at h) ∙ rw (q, found-next s at f e l z, ← lines-step s at h)
 
-    pub seeks-here : t ≡ true → foundLines s (At at) ≡ fromFirst p (linesOn s from)
-    seeks-here y = sym (v .same ∙ step ∙ rw y)
+    pub seeks-here : t ≡ true → foundLines s (found.Line l) ≡ fromFirst p (linesOn s from)
+    seeks-here y = ap (linesOn s) (found-start s at f e l z) ∙ sym (v .same ∙ step ∙ rw y)
 
-    pub seeks-in : Inside s from (At at)
-    seeks-in = (v .low, h)
+    pub seeks-in : Inside s from (found.Line l)
+    seeks-in = record { low = omega (arith, v .low, found-start s at f e l z); is = found-again s at f e l z }
 
     pub seeks-on : t ≡ false → Seeks p s from (l .next)
     seeks-on n = record { low = omega (arith, v .low, found-next s at f e l z, next-more s at h); same = v .same ∙ step ∙ rw n }
@@ -77,8 +77,10 @@ sought-both k line a b e p q = rw (e, p, q)
 
 -- ---- the lines after the first that is sought
 module _ (p : List ℕ → Bool) (s : List ℕ) (from : ℕ) (f : Found) (ef : foundLines s f ≡ fromFirst p (linesOn s from)) where
-  pub after-none : f ≡ Nothing → linesOn s (length s) ≡ afterFirst p (linesOn s from)
+  pub after-none : f ≡ found.Nothing → linesOn s (length s) ≡ afterFirst p (linesOn s from)
   after-none q = lines-last s (length s) (omega arith) ∙ rw (← ef, q)
 
-  pub after-at : Inside s from f → (a : ℕ) → f ≡ At a → (n : ℕ) → n ≡ nextIn a (spanAt s a) → linesOn s n ≡ afterFirst p (linesOn s from)
-  after-at i a q n e = rw (e, next-is s a, ← ef, q, lines-step s a ((rw q at i) .1))
+  pub after-line : Inside s from f → (l : Span) → f ≡ found.Line l → linesOn s (l .next) ≡ afterFirst p (linesOn s from)
+  after-line i l q =
+      let v : LineFrom s from l = rw q at i in
+      rw (span-next s l (v .is), ← ef, q, lines-step s (l .start) (span-inside s l (v .is)))

@@ -5,6 +5,7 @@ use native.Mathlib.Numerals.{add-one}
 use native.Mathlib.Omega.{arith}
 use mathlib.Core.Path.{_≡_, refl, sym, ap, ap₂, _∙_}
 use mathlib.Core.List.{List, [], _∷_, _++_, append-assoc, append-nil}
+use mathlib.Core.Option.{some}
 use lib.ListN.{length, take, drop, set, length-set, take-append-drop}
 use lib.Seq.{length-take-le, take-suc-set, drop-drop}
 use Rattle.laws.proofs.Tests.{apart}
@@ -15,7 +16,8 @@ use Rattle.refusal.specs.Answer.{Answer, ok, no, refusalFor, andThen}
 use Rattle.refusal.specs.declared.Refusal.{Refusal}
 use Rattle.lines.specs.Lines.{Line, isEnd, opens}
 use Rattle.lines.specs.Spans.{spanAt}
-use Rattle.lines.proofs.Ends.{nextOf, lineAt, lines-step}
+use Rattle.lines.specs.declared.Span.{Span}
+use Rattle.lines.proofs.Ends.{nextOf, endingOf, lineAt, lines-step, span-inside, span-next, span-ended}
 use Rattle.reading.specs.Placed.{Placed, placedAt}
 use Rattle.sets.specs.Held.{Good, placesIn}
 use Rattle.reading.specs.Held.{contentFor}
@@ -23,7 +25,7 @@ use Rattle.reading.specs.declared.Content.{Content}
 use Rattle.reading.specs.declared.Purge.the-variants as purge
 use Rattle.reading.proofs.Placing.{placed-back, refused-back, placed-parts}
 use Rattle.segments.specs.Search.{fromFirst}
-use Rattle.segments.specs.Searching.{linesOn, foundLines, Inside, nextIn}
+use Rattle.segments.specs.Searching.{linesOn, foundLines, LineFrom, Inside, nextIn}
 use Rattle.segments.specs.Segments as segments
 use Rattle.segments.specs.Segments.{segmentsFrom, opened, runsTo, pastPurge}
 use Rattle.segments.specs.Seen.{unread, segmentsFor, segmentsHeld, Few, Sized}
@@ -42,14 +44,20 @@ use Rattle.segments.proofs.Purges.{past-is, block-behind, block-skips}
 use Rattle.segments.proofs.Keeping.{kept-length, kept-more}
 
 -- ---- the segment that starts at a
-module _ (s : List ℕ) (issue a : ℕ) (inside : a < length s) (c : Content) (ec : c ≡ contentFor (placedAt s issue a)) where
+module _ (s : List ℕ) (issue : ℕ) (o : Span) (eo : spanAt s (o .start) ≡ some o) (c : Content) (ec : c ≡ contentFor (placedAt s issue (o .start))) where
+  abbrev a : ℕ
+  a = o .start
+
+  inside : a < length s
+  inside = span-inside s o eo
+
   abbrev after : ℕ → Placed → Answer (List segments.Segment)
-  after n p = runsTo a (pastPurge (p .at) (lineAt s a) (linesOn s (nextOf s a))) (p .content) (segmentsFrom n s issue) (fromFirst isEnd (linesOn s a))
+  after n p = runsTo (lineAt s a) (pastPurge (p .at) (lineAt s a) (linesOn s (nextOf s a))) (p .content) (segmentsFrom n s issue) (fromFirst isEnd (linesOn s a))
 
   opened-is : (n : ℕ) → seenOf (opened s issue (segmentsFrom n s issue) (linesOn s a)) ≡ seenOf (andThen (placedAt s issue a) (after n))
   opened-is n =
       ap (λ (ls : List Line). seenOf (opened s issue (segmentsFrom n s issue) ls)) (lines-step s a inside)
-      ∙ ap (λ (ls : List Line). seenOf (andThen (placedAt s issue a) (λ p. runsTo a (pastPurge (p .at) (lineAt s a) (linesOn s (nextOf s a))) (p .content) (segmentsFrom n s issue) (fromFirst isEnd ls)))) (sym (lines-step s a inside))
+      ∙ ap (λ (ls : List Line). seenOf (andThen (placedAt s issue a) (λ p. runsTo (lineAt s a) (pastPurge (p .at) (lineAt s a) (linesOn s (nextOf s a))) (p .content) (segmentsFrom n s issue) (fromFirst isEnd ls)))) (sym (lines-step s a inside))
 
   pub begun-refused : (r : Refusal) → c .purge ≡ purge.Refused r → Begun s issue a (next.Refused r)
   unfolding andThen
@@ -67,7 +75,7 @@ module _ (s : List ℕ) (issue a : ℕ) (inside : a < length s) (c : Content) (e
     end-is = e ∙ ap (λ (n : ℕ). fromFirst isEnd (linesOn s n)) (ed ∙ next-is s at) ∙ sym (block-skips s a at inside (placed-parts s issue a here placed-is .purge))
 
     abbrev runs : ℕ → Answer (List segments.Segment)
-    runs n = runsTo a (pastPurge at (lineAt s a) (linesOn s (nextOf s a))) (here .content) (segmentsFrom n s issue) (foundLines s f)
+    runs n = runsTo (lineAt s a) (pastPurge at (lineAt s a) (linesOn s (nextOf s a))) (here .content) (segmentsFrom n s issue) (foundLines s f)
 
     runs-is : (n : ℕ) → seenOf (opened s issue (segmentsFrom n s issue) (linesOn s a)) ≡ seenOf (runs n)
     unfolding andThen
@@ -76,9 +84,12 @@ module _ (s : List ℕ) (issue a : ℕ) (inside : a < length s) (c : Content) (e
     pub begun-endless : f ≡ found.Nothing → (r : Next) → r ≡ next.Refused (refusalFor noEnd a) → Begun s issue a r
     begun-endless z r w = record { same = λ n. runs-is n ∙ rw (z, w); few = λ g h. let v : next.Refused (refusalFor noEnd a) ≡ next.One g = sym w ∙ h in apart cc }
 
-    module _ (g : Good (c .places)) (i : Inside s d f) (b : ℕ) (z : f ≡ found.At b) (l : ℕ) (el : l ≡ nextIn b (spanAt s b)) where
-      past-line : l ≡ nextOf s b
-      past-line = el ∙ next-is s b
+    module _ (g : Good (c .places)) (i : Inside s d f) (b : Span) (z : f ≡ found.Line b) where
+      end-line : LineFrom s d b
+      end-line = rw z at i
+
+      past-line : b .next ≡ nextOf s (b .start)
+      past-line = span-next s b (end-line .is)
 
       -- the line that has the purge is the one that its element stands in
       past-block : d ≡ pastPurge at (lineAt s a) (linesOn s (nextOf s a))
@@ -87,24 +98,24 @@ module _ (s : List ℕ) (issue a : ℕ) (inside : a < length s) (c : Content) (e
           ed ∙ next-is s at ∙ sym (past-is s a at inside (v .low) (v .high))
 
       one : Segment
-      one = record { start = a; block = d; past = l; purge = t; count = c .places .count }
+      one = record { start = a; block = d; past = b .next; ended = o .ended; purge = t; count = c .places .count }
 
       seen-one : (x : Answer (List segments.Segment))
-          → seenOf (andThen x (λ ss. ok (record { start = a; block = pastPurge at (lineAt s a) (linesOn s (nextOf s a)); past = nextOf s b; content = here .content } ∷ ss))) ≡ seenBefore (one ∷ []) (seenOf x)
+          → seenOf (andThen x (λ ss. ok (record { start = a; block = pastPurge at (lineAt s a) (linesOn s (nextOf s a)); past = nextOf s (b .start); ended = endingOf s a; content = here .content } ∷ ss))) ≡ seenBefore (one ∷ []) (seenOf x)
       unfolding andThen one
       seen-one (ok ss) =
           let n : length (placesIn (c .places)) ≡ c .places .count = length-take-le (c .places .count) (c .places .held) (omega (arith, g .few, g .long)) in
-          rw (n, past-block, past-line)
+          rw (n, past-block, past-line, span-ended s o eo)
       seen-one (no number place) = refl
 
-      pub begun-one : Begun s issue a (next.One (record { start = a; block = d; past = l; purge = t; count = c .places .count }))
+      pub begun-one : Begun s issue a (next.One (record { start = a; block = d; past = b .next; ended = o .ended; purge = t; count = c .places .count }))
       unfolding one
       begun-one =
           record {
             same = λ n.
-                runs-is n ∙ rw (z, lines-step s b ((rw z at i) .1)) (seen-one (segmentsFrom n s issue (linesOn s (nextOf s b)))
+                runs-is n ∙ rw (z, lines-step s (b .start) (span-inside s b (end-line .is))) (seen-one (segmentsFrom n s issue (linesOn s (nextOf s (b .start))))
                 ∙ ap (λ (k : ℕ). seenBefore (one ∷ []) (seenFrom n s issue k)) (sym past-line));
-            few = λ x h. let w : record { start = a; block = d; past = l; purge = t; count = c .places .count } ≡ x = cc in rw (← w) (g .few);
+            few = λ x h. let w : record { start = a; block = d; past = b .next; ended = o .ended; purge = t; count = c .places .count } ≡ x = cc in rw (← w) (g .few);
           }
 
 -- ---- the next segment from a place on
@@ -118,20 +129,20 @@ module _ (s : List ℕ) (issue left from : ℕ) (f : Found) (ef : foundLines s f
   pub step-nothing : f ≡ found.Nothing → Stepped s issue left from next.Nothing
   step-nothing q = record { same = none-left left q; room = λ g e. apart cc; few = λ g e. apart cc }
 
-  module _ (i : Inside s from f) (a : ℕ) (q : f ≡ found.At a) where
-    pub step-inside : a < length s
-    step-inside = (rw q at i) .1
+  module _ (i : Inside s from f) (o : Span) (q : f ≡ found.Line o) where
+    pub step-line : spanAt s (o .start) ≡ some o
+    step-line = let v : LineFrom s from o = rw q at i in v .is
 
-    lines-are : fromFirst opens (linesOn s from) ≡ linesOn s a
+    lines-are : fromFirst opens (linesOn s from) ≡ linesOn s (o .start)
     lines-are = sym ef ∙ ap (foundLines s) q
 
-    pub step-ninth : left ≡ 0 → (r : Next) → r ≡ next.Refused (refusalFor ninthSegment a) → Stepped s issue left from r
+    pub step-ninth : left ≡ 0 → (r : Next) → r ≡ next.Refused (refusalFor ninthSegment (o .start)) → Stepped s issue left from r
     unfolding segmentsFrom
     step-ninth z r e =
-        let no-one : (g : Segment) → r ≡ next.One g → ⊥ = λ g h. let w : next.Refused (refusalFor ninthSegment a) ≡ next.One g = sym e ∙ h in apart cc in
-        record { same = rw (z, e, lines-are, lines-step s a step-inside); room = λ g h. absurd (no-one g h); few = λ g h. absurd (no-one g h) }
+        let no-one : (g : Segment) → r ≡ next.One g → ⊥ = λ g h. let w : next.Refused (refusalFor ninthSegment (o .start)) ≡ next.One g = sym e ∙ h in apart cc in
+        record { same = rw (z, e, lines-are, lines-step s (o .start) (span-inside s o step-line)); room = λ g h. absurd (no-one g h); few = λ g h. absurd (no-one g h) }
 
-    pub step-begun : (left ≡ 0 → ⊥) → (r : Next) → Begun s issue a r → Stepped s issue left from r
+    pub step-begun : (left ≡ 0 → ⊥) → (r : Next) → Begun s issue (o .start) r → Stepped s issue left from r
     unfolding segmentsFrom
     step-begun p r v =
         let one-more : left ≡ suc (left - 1) = omega arith in

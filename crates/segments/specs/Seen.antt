@@ -4,6 +4,7 @@ use mathlib.Core.Path.{_≡_}
 use mathlib.Core.List.{List, _++_}
 use lib.ListN.{length, take, drop, replicate}
 use Rattle.laws.specs.Lists.{All}
+use Rattle.lines.specs.declared.End.the-variants.{Nothing}
 use Rattle.codes.specs.Places.{capacity}
 use Rattle.segments.specs.Segments as segments
 use Rattle.segments.specs.Segments.{most}
@@ -11,11 +12,11 @@ use Rattle.segments.specs.declared.Segment.{Segment}
 use Rattle.segments.specs.declared.Segments.{Segments}
 
 abbrev pub seen : segments.Segment → Segment
-seen g = record { start = g .start; block = g .block; past = g .past; purge = g .content .purge; count = length (g .content .places) }
+seen g = record { start = g .start; block = g .block; past = g .past; ended = g .ended; purge = g .content .purge; count = length (g .content .places) }
 
 -- ---- segments by value: these, and behind them ones that are all zeros
 unfoldable pub unread : List Segment
-unread = replicate most (record { start = 0; block = 0; past = 0; purge = 0; count = 0 })
+unread = replicate most (record { start = 0; block = 0; past = 0; ended = Nothing; purge = 0; count = 0 })
 
 abbrev pub segmentsFor : List Segment → Segments
 segmentsFor gs = record { held = gs ++ drop (length gs) unread; count = length gs }

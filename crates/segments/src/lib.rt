@@ -1,7 +1,10 @@
 // The segments of a bulletin: the search over lines, and each segment in its turn. Document 01, "Segments and place code blocks".
 ghost use mathlib.Core.Path.{_≡_};
-ghost use Prim.Native.Nat.{_≤_, _<_};
+ghost use Prim.Native.Nat.{_≤_};
+ghost use mathlib.Core.Option.{some};
+use lines::End;
 use lines::Lined;
+use lines::Span;
 use reading::Purge;
 use refusal::Refusal;
 ghost use lib.ListN.{length};
@@ -16,9 +19,9 @@ ghost use Rattle.segments.specs.Seen.{unread, segmentsFor, segmentsHeld,
 ghost use Rattle.segments.specs.Listing.{Begun, Stepped, seenFrom, paperListed};
 ghost use Rattle.segments.specs.KeptBy.{keptBy, keptFrom, handedOn};
 
-// A line's start, or none.
+// A line, or none.
 pub enum Found {
-    At(usize),
+    Line(Span),
     Nothing,
 }
 
@@ -60,7 +63,7 @@ pub fn first(text: &[u8], from: usize, sought: Sought) -> Found
         };
         let line = lines::part(text, at, l.end);
         if is_sought(line, sought) {
-            break 'search Found::At(at);
+            break 'search Found::Line(l);
         }
         at = l.next;
     };
@@ -103,7 +106,7 @@ fn first_opening(text: &[u8], from: usize) -> Found
         while may_open(line, k) {
             k += 1;
             if k == 7 {
-                break 'search Found::At(at);
+                break 'search Found::Line(l);
             }
         }
         at = l.next;
@@ -125,18 +128,19 @@ fn after_line(text: &[u8], at: usize) -> usize
 pub fn after_first(text: &[u8], from: usize, sought: Sought) -> usize
     ensures { λ r. ⌜ linesOn (now (text .entry)) r ≡ afterFirst (testOf sought) (linesOn (now (text .entry)) from) ⌝ }
 {
-    let Found::At(at) = first(text, from, sought) else {
+    let Found::Line(l) = first(text, from, sought) else {
         return text.len();
     };
-    after_line(text, at)
+    l.next
 }
 
-// A segment: its first byte's place, where its block starts too, the place after its block's last line, the place after its `$$` line, its purge minute and how many
-// places it has.
+// A segment: its first byte's place, where its block starts too, the place after its block's last line, the place after its `$$` line, how its first line ended, its
+// purge minute and how many places it has.
 pub struct Segment {
     pub start: usize,
     pub block: usize,
     pub past: usize,
+    pub ended: End,
     pub purge: usize,
     pub count: usize,
 }
@@ -184,13 +188,15 @@ fn keep(kept: &mut [u32], at: usize, places: &[u32])
     }
 }
 
-// The segment whose first line starts at `start`; its places are kept from `at` on.
-fn read_segment(text: &[u8], start: usize, issue: usize, kept: &mut [u32], at: usize) -> Next
-    requires { ⌜ start < length (now text) ⌝ }
+// The segment that a line of the text opens; its places are kept from `at` on.
+fn read_segment(text: &[u8], opening: Span, issue: usize, kept: &mut [u32], at: usize) -> Next
+    requires { ⌜ spanAt (now text) (opening .start) ≡ some opening ⌝ }
     requires { ⌜ at ≤ 960 ⌝ }
-    ensures is { λ r. ⌜ Begun (now (text .entry)) issue start r ⌝ }
+    ensures is { λ r. ⌜ Begun (now (text .entry)) issue (opening .start) r ⌝ }
     ensures kept { λ r. ⌜ now (kept .exit) ≡ keptBy (now (text .entry)) issue at r (now (kept .entry)) ⌝ }
 {
+    let start = opening.start;
+    let ended = opening.ended;
     let content = reading::read_content(text, start, issue);
     let places = content.places;
     let purge = content.purge;
@@ -199,16 +205,16 @@ fn read_segment(text: &[u8], start: usize, issue: usize, kept: &mut [u32], at: u
         Purge::Refused(r) => Next::Refused(r),
         Purge::At(minute, place) => {
             let block = after_line(text, place);
-            let Found::At(end) = first(text, block, Sought::End) else {
+            let Found::Line(end) = first(text, block, Sought::End) else {
                 return refused(refusal::NO_END, start);
             };
-            let past = after_line(text, end);
             let held = places.held;
             keep(kept, at, &held[0..count]);
             Next::One(Segment {
                 start,
                 block,
-                past,
+                past: end.next,
+                ended,
                 purge: minute,
                 count,
             })
@@ -229,13 +235,13 @@ fn next_segment(
     ensures is { λ r. ⌜ Stepped (now (text .entry)) issue left from r ⌝ }
     ensures kept { λ r. ⌜ now (kept .exit) ≡ keptBy (now (text .entry)) issue at r (now (kept .entry)) ⌝ }
 {
-    let Found::At(start) = first_opening(text, from) else {
+    let Found::Line(opening) = first_opening(text, from) else {
         return Next::Nothing;
     };
     if left == 0 {
-        return refused(refusal::NINTH_SEGMENT, start);
+        return refused(refusal::NINTH_SEGMENT, opening.start);
     }
-    read_segment(text, start, issue, kept, at)
+    read_segment(text, opening, issue, kept, at)
 }
 
 // Eight segments that are all zeros.
@@ -246,6 +252,7 @@ pub fn unread() -> [Segment; 8]
         start: 0,
         block: 0,
         past: 0,
+        ended: End::Nothing,
         purge: 0,
         count: 0,
     }; 8]

@@ -26,6 +26,8 @@ use Rattle.writing.specs.declared.Written.{Written}
 use Rattle.writing.specs.declared.Written.the-variants as written
 use Rattle.bulletin.specs.Bulletin as rule
 use Rattle.bulletin.specs.Bulletin.{textMost, isLength, readBulletin}
+use Rattle.lines.specs.declared.End.{End}
+use Rattle.segments.specs.Segments as rule-segments
 use Rattle.segments.specs.Seen.{seen, segmentsHeld, Sized}
 use Rattle.bulletin.specs.Report.{reported, reportOf, Reads}
 use Rattle.segments.specs.declared.Segment.{Segment}
@@ -38,11 +40,11 @@ use Rattle.blocks.specs.Block.{bookLength, numberAt}
 use Rattle.layout.specs.Layout.{bookOf}
 use Rattle.layout.specs.Tests.{isSound}
 use Rattle.layout.proofs.Said.{segments-length}
-use Rattle.forms.specs.Edited.{edited, writtenForms}
-use Rattle.forms.specs.Forms.{SoundBook, RoomFor, Laid, sumOf, cutInto, keptLength, withForms, filledIn, Cuttable}
+use Rattle.forms.specs.Edited.{edited, endsIn, writtenForms}
+use Rattle.forms.specs.Forms.{endsOf, SoundBook, RoomFor, Laid, sumOf, cutInto, keptLength, withForms, filledIn, Cuttable}
 use Rattle.forms.specs.declared.Sizes.{Sizes}
 use Rattle.forms.proofs.Forming.{forms-many}
-use Rattle.forms.proofs.Keeping.{forms-edited, forms-length, cut-in-order, sum-lengths}
+use Rattle.forms.proofs.Keeping.{ends-seen, forms-edited, forms-length, cut-in-order, sum-lengths}
 use Rattle.sending.specs.Send.{readUnder, belongs, editedRule, WritesEdited}
 use Rattle.sending.specs.Under.{IssueOn, Belonging}
 
@@ -104,7 +106,7 @@ module _ (text l before : List ℕ) where
       rule-read : (a : Answer rule.Bulletin) → readUnder text (dateOf (bookOf l .issue)) ≡ a
           → editedRule text l (length before) ≡ andThen a
           (λ r. andThen (must (belongs (bookOf l) r) notBelonging 0)
-          (λ _. andThen (writtenForms (bookOf l .segments)) (λ blocks. fitting (length before) (edited text (r .segments) blocks))))
+          (λ _. andThen (writtenForms (endsIn (r .segments)) (bookOf l .segments)) (λ blocks. fitting (length before) (edited text (r .segments) blocks))))
       unfolding editedRule andThen
       rule-read a e = rw (t, eq-eqb (length l) bookLength (sound .long), sound .sound, e)
 
@@ -186,16 +188,26 @@ module _ (text l before : List ℕ) where
             let n = eqb (length (v .said .segments)) (length (bookOf l .segments)) in
             sym many-held ∙ eqb-true _ _ (and-right i n (v .agrees)) ∙ segments-length l
 
-        module _ (forms : List ℕ) (s : Sizes) (w : Laid l forms s) where
+        -- the first lines ended as the rule says
+        ends-are : endsOf (segmentsHeld gs) ≡ endsIn (v .said .segments)
+        ends-are = ap endsOf (v .are) ∙ ends-seen (v .said .segments)
+
+        module _ (forms : List ℕ) (s : Sizes) (w : Laid (endsOf (segmentsHeld gs)) l forms s) where
+          given-is : writtenForms (endsIn (v .said .segments)) (bookOf l .segments) ≡ ok (w .blocks)
+          given-is = ap (λ (es : List End). writtenForms es (bookOf l .segments)) (sym ends-are) ∙ w .given
+
+          ends-many : length (endsIn (v .said .segments)) ≡ length (bookOf l .segments)
+          ends-many = length-map (v .said .segments) (λ (g : rule-segments.Segment). g .ended) ∙ many-held ∙ held-count ∙ sym (segments-length l)
+
           abbrev out : List ℕ
           out = edited text (v .said .segments) (w .blocks)
 
           rule-last : editedRule text l (length before) ≡ fitting (length before) out
           unfolding andThen
-          rule-last = rule-read (ok (v .said)) (ap (readUnder text) (v .dated) ∙ v .read) ∙ rw (v .agrees, w .given)
+          rule-last = rule-read (ok (v .said)) (ap (readUnder text) (v .dated) ∙ v .read) ∙ rw (v .agrees, given-is)
 
           as-many : length (w .blocks) ≡ gs .count
-          as-many = forms-many (bookOf l .segments) (w .blocks) (w .given) ∙ segments-length l ∙ sym held-count
+          as-many = forms-many (endsIn (v .said .segments)) (bookOf l .segments) ends-many (w .blocks) given-is ∙ segments-length l ∙ sym held-count
 
           cut : cutInto (take (gs .count) (s .each)) forms ≡ w .blocks
           cut =

@@ -10,7 +10,7 @@ use Rattle.lines.specs.Bytes.{bytes}
 use Rattle.segments.specs.Segments.{Segment}
 use Rattle.bulletin.specs.Bulletin.{readBulletin}
 use Rattle.blocks.specs.Block.{sameList}
-use Rattle.forms.specs.Edited.{edited, writtenForms}
+use Rattle.forms.specs.Edited.{edited, endsIn, writtenForms}
 
 -- below the heading of two lines: what stands there, what is written out, and how many bytes the whole is
 pub record EditedRow : Type 0 where
@@ -22,7 +22,7 @@ abbrev pub belowHeading : String → List ℕ
 belowHeading text = bytes "FPUS51 KXYZ 240822\nZFPXYZ\n" ++ bytes text
 
 abbrev pub ownForms : List ℕ → List Segment → Answer (List ℕ)
-ownForms text gs = andThen (writtenForms (map (λ (g : Segment). g .content) gs)) (λ blocks. ok (edited text gs blocks))
+ownForms text gs = andThen (writtenForms (endsIn gs) (map (λ (g : Segment). g .content) gs)) (λ blocks. ok (edited text gs blocks))
 
 abbrev pub unedited : List ℕ → Answer (List ℕ)
 unedited text = andThen (readBulletin text 2002 4) (λ r. ownForms text (r .segments))
@@ -40,11 +40,12 @@ editedRow given out long = record { given = given; out = out; long = long }
 
 abbrev pub editedTable : List EditedRow
 editedTable =
-    editedRow "MDC001-242100-\n$$\n" "MDC001-242100-\r\r\n$$\n" 46
-    -- nobody edited it, and still it is replaced
-    ∷ editedRow "MDC005-003-\n242100-\r\nTEXT\n$$\n" "MDC003-005-242100-\r\r\nTEXT\n$$\n" 55
+    editedRow "MDC001-242100-\n$$\n" "MDC001-242100-\n$$\n" 44
+    -- nobody edited it, and still it is replaced; all its lines end as its first one did
+    ∷ editedRow "MDC005-003-\n242100-\r\nTEXT\n$$\n" "MDC003-005-242100-\nTEXT\n$$\n" 53
+    ∷ editedRow "MDC005-\r\n003-242100-\nTEXT\n$$\n" "MDC003-005-242100-\r\nTEXT\n$$\n" 54
     -- what stands between and behind is kept, as it ended
-    ∷ editedRow "\nNWS X\r\n\n005-\nMDCALL-242100-\n$$\r\nX\nVAZ053-250000-\n\n$$\nY\n" "\nNWS X\r\n\n005-\nMDC000-242100-\r\r\n$$\r\nX\nVAZ053-250000-\r\r\n\n$$\nY\n" 86
-    -- a later segment's block within the MND block
-    ∷ editedRow "MDC001-242100-\n$$\n\nMDC003-002-\n001-242100-\nNWS X AL042005\n$$\n" "MDC001-242100-\r\r\n$$\n\nMDC001>003-242100-\r\r\nNWS X AL042005\n$$\n" 86
+    ∷ editedRow "\nNWS X\r\n\n005-\nMDCALL-242100-\n$$\r\nX\nVAZ053-250000-\n\n$$\nY\n" "\nNWS X\r\n\n005-\nMDC000-242100-\n$$\r\nX\nVAZ053-250000-\n\n$$\nY\n" 82
+    -- a later segment's block within the MND block, and each block by its own first line
+    ∷ editedRow "MDC001-242100-\n$$\n\nMDC003-002-\r\r\n001-242100-\nNWS X AL042005\n$$\n" "MDC001-242100-\n$$\n\nMDC001>003-242100-\r\r\nNWS X AL042005\n$$\n" 84
     ∷ []

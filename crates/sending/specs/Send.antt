@@ -17,7 +17,7 @@ use Rattle.blocks.specs.Block.{bookLength}
 use Rattle.steps.specs.Book.{Book}
 use Rattle.layout.specs.Layout.{bookOf}
 use Rattle.layout.specs.Tests.{isSound}
-use Rattle.forms.specs.Edited.{edited, writtenForms}
+use Rattle.forms.specs.Edited.{edited, endsIn, writtenForms}
 
 -- "The text is read afresh under the year and month of the book's issue minute": a sound book's has both (`sound-dated`).
 abbrev pub readUnder : List ℕ → Option Date → Answer Bulletin
@@ -35,7 +35,7 @@ editedRule text l room =
     andThen (must (isSound l) notSound 0) λ _.
     andThen (readUnder text (dateOf (bookOf l .issue))) λ r.
     andThen (must (belongs (bookOf l) r) notBelonging 0) λ _.
-    andThen (writtenForms (bookOf l .segments)) λ blocks.
+    andThen (writtenForms (endsIn (r .segments)) (bookOf l .segments)) λ blocks.
     fitting room (edited text (r .segments) blocks)
 
 -- the promise of the call: the answer, and the output afterwards; "its length is answered and later bytes stay"

@@ -32,7 +32,7 @@ fn write_with(
     requires { ⌜ RoomFor (segments .count) (now forms) ⌝ }
     ensures { λ r. ⌜ WritesEdited (now (text .entry)) (now (book .entry)) (now (out .entry)) (now (out .exit)) r ⌝ }
 {
-    let sizes = forms::write_forms(book, segments.count, &mut *forms);
+    let sizes = forms::write_forms(book, segments, &mut *forms);
     let kept = forms::kept_length(text, segments);
     let n = kept + sizes.total;
     if out.len() < n {

@@ -11,6 +11,9 @@ use Rattle.laws.proofs.Tests.{by, apart, either-way}
 use Rattle.refusal.specs.Numbers.{outOfRange}
 use Rattle.refusal.specs.Answer.{ok, refused}
 use Rattle.lines.specs.Bytes.{bytes}
+use Rattle.lines.specs.Lines.{endBytes}
+use Rattle.lines.specs.declared.End.{End}
+use Rattle.lines.specs.declared.End.the-variants.{Lf, CrLf, CrCrLf, Nothing}
 use Rattle.calendar.specs.Calendar.{dateOf}
 use Rattle.calendar.specs.declared.Date.{Date}
 use Rattle.calendar.specs.declared.Stamp.{Stamp}
@@ -81,26 +84,35 @@ spans-ink s [] last = purge-ink s
 spans-ink s (r ∷ rs) last = omega (arith, parted-ink (10 * sizeOf rs + 10) (purgeElement s ∷ []) (spansOf rs) (spans-ink s rs) last (r .first) (r .more))
 
 -- ---- the text, whose last line ends
-ink-most : (n : ℕ) (es : List (List ℕ)) → length (inkFrom n es) ≤ 3 + inkOf es
-unfolding inkOf
-ink-most n [] = rw (ink-end n) (omega arith)
-ink-most n (e ∷ es) =
-    by (fits n e)
-    (λ q. rw (ink-on n e es q) (omega (arith, length-append e (inkFrom (n + length e) es), ink-most (n + length e) es)))
-    λ q. rw (ink-next n e es q) (omega (arith, length-append e (inkFrom (length e) es), ink-most (length e) es))
+end-most : (end : End) → length (endBytes end) ≤ 3
+end-most Lf = omega arith
+end-most CrLf = omega arith
+end-most CrCrLf = omega arith
+end-most Nothing = omega arith
 
--- What is written of a segment's places has at most 1,216 bytes,
-pub written-most : (ps : List ℕ) (s : Stamp) → isSet ps ≡ true → length (written ps s) ≤ writtenBlockMost
-unfolding written blockElements
-written-most ps s e =
-    let es : List (List ℕ) = elementsOf none (spansOf (runsOf ps)) ++ (purgeElement s ∷ []) in
-    rw (ink-start es) (omega (arith, ink-most 0 es, spans-ink s (runsOf ps) none, runs-size ps, set-true ps e .few))
+module _ (end : End) where
+  ink-most : (n : ℕ) (es : List (List ℕ)) → length (inkFrom end n es) ≤ 3 + inkOf es
+  unfolding inkOf
+  ink-most n [] = rw (ink-end end n) (omega (arith, end-most end))
+  ink-most n (e ∷ es) =
+      by (fits n e)
+      (λ q. rw (ink-on end n e es q) (omega (arith, length-append e (inkFrom end (n + length e) es), ink-most (n + length e) es)))
+      λ q. let rest : List ℕ = e ++ inkFrom end (length e) es in
+      rw (ink-next end n e es q)
+      (omega (arith, end-most end, length-append (endBytes end) rest, length-append e (inkFrom end (length e) es), ink-most (length e) es))
 
--- and so has every block that the rule of writing gives.
-pub block-most : (ps : List ℕ) (minute : ℕ) (block : List ℕ) → writtenBlock ps minute ≡ ok block → length block ≤ writtenBlockMost
-unfolding writtenBlock
-block-most ps minute block e = by (isSet ps) (λ q. go q (dateOf minute) (rw q at e)) λ q. let f : refused outOfRange 0 ≡ ok block = rw q at e in apart cc
-  where
-    go : isSet ps ≡ true → (o : Option Date) → datedBlock ps o ≡ ok block → length block ≤ writtenBlockMost
-    go q none f = apart cc
-    go q (some d) f = let g : written ps (d .stamp) ≡ block = cc in rw (← g) (written-most ps (d .stamp) q)
+  -- What is written of a segment's places has at most 1,216 bytes,
+  pub written-most : (ps : List ℕ) (s : Stamp) → isSet ps ≡ true → length (written end ps s) ≤ writtenBlockMost
+  unfolding written blockElements
+  written-most ps s e =
+      let es : List (List ℕ) = elementsOf none (spansOf (runsOf ps)) ++ (purgeElement s ∷ []) in
+      rw (ink-start end es) (omega (arith, ink-most 0 es, spans-ink s (runsOf ps) none, runs-size ps, set-true ps e .few))
+
+  -- and so has every block that the rule of writing gives.
+  pub block-most : (ps : List ℕ) (minute : ℕ) (block : List ℕ) → writtenBlock end ps minute ≡ ok block → length block ≤ writtenBlockMost
+  unfolding writtenBlock
+  block-most ps minute block e = by (isSet ps) (λ q. go q (dateOf minute) (rw q at e)) λ q. let f : refused outOfRange 0 ≡ ok block = rw q at e in apart cc
+    where
+      go : isSet ps ≡ true → (o : Option Date) → datedBlock end ps o ≡ ok block → length block ≤ writtenBlockMost
+      go q none f = apart cc
+      go q (some d) f = let g : written end ps (d .stamp) ≡ block = cc in rw (← g) (written-most ps (d .stamp) q)

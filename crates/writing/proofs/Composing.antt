@@ -9,6 +9,7 @@ use lib.ListN.{length, getD, drop, length-append, drop-of-length-le}
 use lib.Seq.{length-sets, drop-cons}
 use Rattle.codes.proofs.Sets.{Set, ascending-below}
 use Rattle.laws.proofs.Stores.{sets-front}
+use Rattle.lines.specs.declared.End.{End}
 use Rattle.calendar.specs.declared.Stamp.{Stamp}
 use Rattle.codes.specs.Written.{runsOf, spansOf, elementsOf, purgeElement, blockElements, written}
 use Rattle.codes.specs.Places.{upward}
@@ -26,29 +27,29 @@ origin = record { pos = 0; col = 0 }
 
 -- The places before i have made the bytes a to b and the writer's state to s: with what is ahead, these are the block's elements.
 -- There are no more elements than places.
-pub record Begun (a b : List ℕ) (s : State) (i : ℕ) (ps : List ℕ) : Type 0 where
+pub record Begun (end : End) (a b : List ℕ) (s : State) (i : ℕ) (ps : List ℕ) : Type 0 where
   pub done : List (List ℕ)
-  pub inked : Inked a b origin (s .pen) done
+  pub inked : Inked end a b origin (s .pen) done
   pub whole : elementsOf none (spansOf (runsOf ps)) ≡ done ++ ahead s (drop i ps)
   pub fine : FineState s
   pub few : length done + suc (s .more) ≤ i
   pub within : i ≤ length ps
 
-module _ (a : List ℕ) (ps : List ℕ) (set : Set ps) where
-  pub begun-start : Begun a a (record { pen = origin; last = last.Nothing; lo = getD ps 0 0; more = 0 }) 1 ps
+module _ (end : End) (a : List ℕ) (ps : List ℕ) (set : Set ps) where
+  pub begun-start : Begun end a a (record { pen = origin; last = last.Nothing; lo = getD ps 0 0; more = 0 }) 1 ps
   unfolding upward
   begun-start =
       record {
         done = [];
-        inked = inked-none a origin (omega arith);
+        inked = inked-none end a origin (omega arith);
         whole = ap (λ (qs : List ℕ). elementsOf none (spansOf (runsOf qs))) (drop-cons ps 0 0 (set .one));
         fine = record { joined = open-one; below = let h = ascending-below (set .up) 0 (set .one) in omega arith; low = omega arith };
         few = omega arith;
         within = set .one;
       }
 
-  module _ (b : List ℕ) (s : State) (i : ℕ) (v : Begun a b s i ps) where
-    pub begun-turn : i < length ps → (c : List ℕ) (r : State) → Turned b c s r (getD ps i 0) → Begun a c r (i + 1) ps
+  module _ (b : List ℕ) (s : State) (i : ℕ) (v : Begun end a b s i ps) where
+    pub begun-turn : i < length ps → (c : List ℕ) (r : State) → Turned end b c s r (getD ps i 0) → Begun end a c r (i + 1) ps
     begun-turn h c r t =
         record {
           done = v .done ++ t .done;
@@ -70,17 +71,17 @@ module _ (a : List ℕ) (ps : List ℕ) (set : Set ps) where
     begun-room h = omega (arith, begun-length, v .inked .far, v .few, v .within, set .few)
 
     module _ (stamp : Stamp) (h : length ps ≤ i) where
-      begun-text : written ps stamp ≡ v .inked .ink ++ closing s stamp
+      begun-text : written end ps stamp ≡ v .inked .ink ++ closing end s stamp
       unfolding written blockElements
       begun-text =
           let purge : List (List ℕ) = purgeElement stamp ∷ [] in
-          ink-start (blockElements ps stamp)
-          ∙ ap (λ (es : List (List ℕ)). inkFrom 0 (es ++ purge)) (rw (drop-of-length-le ps h) at (v .whole))
+          ink-start end (blockElements ps stamp)
+          ∙ ap (λ (es : List (List ℕ)). inkFrom end 0 (es ++ purge)) (rw (drop-of-length-le ps h) at (v .whole))
           ∙ rw append-assoc (v .inked .goes (ahead s [] ++ purge))
 
-      pub begun-end : blockMost ≤ length a → (c : List ℕ) (r : ℕ) → Closed b c s stamp r → Composed a c (written ps stamp) r
+      pub begun-end : blockMost ≤ length a → (c : List ℕ) (r : ℕ) → Closed end b c s stamp r → Composed a c (written end ps stamp) r
       begun-end g c r t =
-          let all : Stored a c 0 r (v .inked .ink ++ closing s stamp) = stored-on (v .inked .stored) (t .stored) in
-          let text : Stored a c 0 r (written ps stamp) = rw begun-text all in
+          let all : Stored a c 0 r (v .inked .ink ++ closing end s stamp) = stored-on (v .inked .stored) (t .stored) in
+          let text : Stored a c 0 r (written end ps stamp) = rw begun-text all in
           let most : r ≤ blockMost = omega (arith, t .far, v .inked .far, v .few, v .within, set .few) in
-          record { long = omega (arith, text .end); most = most; bytes = text .bytes ∙ sets-front a (written ps stamp) (omega (arith, text .end)) }
+          record { long = omega (arith, text .end); most = most; bytes = text .bytes ∙ sets-front a (written end ps stamp) (omega (arith, text .end)) }

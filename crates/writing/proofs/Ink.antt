@@ -5,12 +5,13 @@ use native.Mathlib.Nat.{add-zero}
 use mathlib.Core.Path.{_≡_, refl, ap, _∙_}
 use mathlib.Core.Bool.{true, false, not, _&&_}
 use mathlib.Core.Option.{Option, some}
-use mathlib.Core.List.{List, [], _∷_, _++_, append-assoc}
+use mathlib.Core.List.{List, [], _∷_, _++_, append-assoc, append-nil}
 use lib.ListN.{length}
 use lib.Dec.{eqb}
 use borrow.Author.Tests.{eqb-true, eqb-false, not-true}
 use Rattle.laws.proofs.Tests.{by, and-left, and-right}
-use Rattle.lines.specs.Bytes.{bytes}
+use Rattle.lines.specs.Lines.{endBytes}
+use Rattle.lines.specs.declared.End.{End}
 use Rattle.codes.specs.Places.{upward}
 use Rattle.codes.specs.Written.{Run, single, joins, join, runsOf, parted, spansOf, elementsOf, fits, wrapFrom, wrapped, inOrder, rendered}
 use Rattle.writing.specs.Ink.{Open, open-one, open-more, inkFrom}
@@ -90,20 +91,21 @@ parted-few last p zero = omega arith
 parted-few last p (suc zero) = omega arith
 parted-few last p (suc (suc n)) = omega arith
 
--- ---- a column
-pub ink-start : (es : List (List ℕ)) → rendered (wrapped es) ≡ inkFrom 0 es
-unfolding inkFrom
-ink-start es = refl
+-- ---- a column, where lines end so
+module _ (end : End) where
+  pub ink-start : (es : List (List ℕ)) → rendered end (wrapped es) ≡ inkFrom end 0 es
+  unfolding inkFrom
+  ink-start es = refl
 
-pub ink-end : (n : ℕ) → inkFrom n [] ≡ bytes "\r\r\n"
-unfolding inkFrom wrapFrom inOrder rendered
-ink-end n = refl
+  pub ink-end : (n : ℕ) → inkFrom end n [] ≡ endBytes end
+  unfolding inkFrom wrapFrom inOrder rendered
+  ink-end n = append-nil (endBytes end)
 
-pub ink-on : (n : ℕ) (e : List ℕ) (es : List (List ℕ)) → fits n e ≡ true → inkFrom n (e ∷ es) ≡ e ++ inkFrom (n + length e) es
-unfolding inkFrom wrapFrom inOrder rendered
-ink-on n e es h = rw h (append-assoc e _ _)
+  pub ink-on : (n : ℕ) (e : List ℕ) (es : List (List ℕ)) → fits n e ≡ true → inkFrom end n (e ∷ es) ≡ e ++ inkFrom end (n + length e) es
+  unfolding inkFrom wrapFrom inOrder rendered
+  ink-on n e es h = rw h (append-assoc e _ _)
 
-pub ink-next : (n : ℕ) (e : List ℕ) (es : List (List ℕ)) → fits n e ≡ false
-    → inkFrom n (e ∷ es) ≡ bytes "\r\r\n" ++ (e ++ inkFrom (length e) es)
-unfolding inkFrom wrapFrom inOrder rendered
-ink-next n e es h = rw h (ap (λ (x : List ℕ). bytes "\r\r\n" ++ x) (append-assoc e _ _))
+  pub ink-next : (n : ℕ) (e : List ℕ) (es : List (List ℕ)) → fits n e ≡ false
+      → inkFrom end n (e ∷ es) ≡ endBytes end ++ (e ++ inkFrom end (length e) es)
+  unfolding inkFrom wrapFrom inOrder rendered
+  ink-next n e es h = rw h (ap (λ (x : List ℕ). endBytes end ++ x) (append-assoc e _ _))

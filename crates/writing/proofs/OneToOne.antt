@@ -4,9 +4,10 @@ use mathlib.Core.Path.{_≡_, ap}
 use mathlib.Core.List.{List}
 use Rattle.laws.proofs.Tests.{apart}
 use Rattle.laws.proofs.One.{answer-one, Same}
+use Rattle.lines.specs.declared.End.{End}
 use Rattle.refusal.specs.Answer.{Answer}
 use Rattle.refusal.proofs.OneToOne.{refusal-one}
-use Rattle.writing.specs.Write.{paperWritten, Writes}
+use Rattle.writing.specs.Write.{paperWritten, WritesEnded}
 use Rattle.writing.specs.declared.Written.{Written}
 use Rattle.writing.specs.declared.Written.the-variants.{Length, Refused}
 
@@ -16,5 +17,6 @@ written-one (Length m) (Refused s) a b = apart cc
 written-one (Refused r) (Length n) a b = apart cc
 written-one (Refused r) (Refused s) a b = ap Refused (refusal-one r s a b)
 
-pub writes-block-one : (out m n places : List ℕ) (minute : ℕ) (r q : Written) → Writes out m places minute r → Writes out n places minute q → Same r q m n
-writes-block-one out m n places minute r q x y = record { answers = written-one r q (x .answer) (y .answer); bytes = answer-one m n (x .output) (y .output) }
+pub writes-block-one : (end : End) (out m n places : List ℕ) (minute : ℕ) (r q : Written)
+    → WritesEnded end out m places minute r → WritesEnded end out n places minute q → Same r q m n
+writes-block-one end out m n places minute r q x y = record { answers = written-one r q (x .answer) (y .answer); bytes = answer-one m n (x .output) (y .output) }

@@ -9,6 +9,9 @@ use mathlib.Core.List.{List, [], _∷_, _++_}
 use lib.ListN.{length, set, length-append}
 use Rattle.laws.proofs.Stores.{sets-then}
 use Rattle.lines.specs.Bytes.{bytes}
+use Rattle.lines.specs.Lines.{endBytes}
+use Rattle.lines.specs.declared.End.{End}
+use Rattle.lines.specs.declared.End.the-variants.{Lf, CrLf, CrCrLf, Nothing}
 use Rattle.calendar.specs.Calendar.{isTime}
 use Rattle.calendar.proofs.Laws.{time-true}
 use Rattle.calendar.specs.declared.Stamp.{Stamp}
@@ -35,6 +38,21 @@ module _ (a : List ℕ) (i x : ℕ) where
 pub stored-on : {a b c : List ℕ} {i j k : ℕ} {s t : List ℕ} → Stored a b i j s → Stored b c j k t → Stored a c i k (s ++ t)
 stored-on {a} {i = i} {s = s} {t = t} f g =
     record { end = omega (arith, f .end, g .end, length-append s t); bytes = sets-then a i s t (f .bytes) (f .end) (g .bytes) }
+
+-- ---- a line's end
+module _ (a : List ℕ) (i : ℕ) (end : End) where
+  pub stored-lf : end ≡ Lf → Stored a (set a i 10) i (i + 1) (endBytes end)
+  stored-lf h = rw h (stored-one a i 10)
+
+  pub stored-nothing : end ≡ Nothing → Stored a a i i (endBytes end)
+  stored-nothing h = rw h (stored-none a i)
+
+  module _ (b : List ℕ) (j : ℕ) where
+    pub stored-crlf : end ≡ CrLf → Stored a b i j (13 ∷ 10 ∷ []) → Stored a b i j (endBytes end)
+    stored-crlf h s = rw h s
+
+    pub stored-crcrlf : end ≡ CrCrLf → Stored a b i j (13 ∷ 13 ∷ 10 ∷ []) → Stored a b i j (endBytes end)
+    stored-crcrlf h s = rw h s
 
 -- ---- an element's parts
 module _ (a : List ℕ) (i : ℕ) (last : Option ℕ) (p : ℕ) (t : Bool) (e : newPrefix last p ≡ cond t [] (prefixBytes p)) where

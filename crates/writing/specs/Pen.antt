@@ -4,6 +4,7 @@ use mathlib.Core.Path.{_≡_}
 use mathlib.Core.List.{List, [], _∷_, _++_}
 use lib.ListN.{length, drop}
 use lib.Seq.{sets}
+use Rattle.lines.specs.declared.End.{End}
 use Rattle.calendar.specs.declared.Stamp.{Stamp}
 use Rattle.codes.specs.Places.{placesEnd}
 use Rattle.codes.specs.Written.{Run, runsOf, spansOf, elementsOf, purgeElement, writtenMost}
@@ -27,12 +28,12 @@ elementMost = 11
 abbrev pub runFrom : ℕ → ℕ → Run
 runFrom lo more = record { first = lo; more = more }
 
--- ---- elements set in lines
+-- ---- elements set in lines that end so
 -- The pen went from p to q, to a new line or not at all, and there an element of n bytes goes: whatever elements follow it, the text goes on behind it.
-pub record Room (a b : List ℕ) (p q : Pen) (n : ℕ) : Type 0 where
+pub record Room (end : End) (a b : List ℕ) (p q : Pen) (n : ℕ) : Type 0 where
   pub ink : List ℕ
   pub stored : Stored a b (p .pos) (q .pos) ink
-  pub goes : (e : List ℕ) → n ≡ length e → (fs : List (List ℕ)) → inkFrom (p .col) (e ∷ fs) ≡ ink ++ (e ++ inkFrom (q .col + n) fs)
+  pub goes : (e : List ℕ) → n ≡ length e → (fs : List (List ℕ)) → inkFrom end (p .col) (e ∷ fs) ≡ ink ++ (e ++ inkFrom end (q .col + n) fs)
   pub far : q .pos ≤ p .pos + 3
   pub low : q .col + n ≤ writtenMost
 
@@ -41,10 +42,10 @@ abbrev pub inkMost : ℕ
 inkMost = elementMost + 3
 
 -- The elements es went to the bytes a and made them b; the pen went from p to r. Whatever elements follow, the text goes on behind the ink.
-pub record Inked (a b : List ℕ) (p r : Pen) (es : List (List ℕ)) : Type 0 where
+pub record Inked (end : End) (a b : List ℕ) (p r : Pen) (es : List (List ℕ)) : Type 0 where
   pub ink : List ℕ
   pub stored : Stored a b (p .pos) (r .pos) ink
-  pub goes : (fs : List (List ℕ)) → inkFrom (p .col) (es ++ fs) ≡ ink ++ inkFrom (r .col) fs
+  pub goes : (fs : List (List ℕ)) → inkFrom end (p .col) (es ++ fs) ≡ ink ++ inkFrom end (r .col) fs
   pub far : r .pos ≤ p .pos + inkMost * length es
   pub low : r .col ≤ writtenMost
 
@@ -59,22 +60,22 @@ pub record FineState (s : State) : Type 0 where
   pub low : s .pen .col ≤ writtenMost
 
 -- What one more place leaves: the elements of the run that it closes are written, and the others are still ahead. Each has a place of its own.
-pub record Turned (a b : List ℕ) (s r : State) (q : ℕ) : Type 0 where
+pub record Turned (end : End) (a b : List ℕ) (s r : State) (q : ℕ) : Type 0 where
   pub done : List (List ℕ)
-  pub inked : Inked a b (s .pen) (r .pen) done
+  pub inked : Inked end a b (s .pen) (r .pen) done
   pub keeps : (qs : List ℕ) → ahead s (q ∷ qs) ≡ done ++ ahead r qs
   pub fine : FineState r
   pub few : length done + r .more ≤ suc (s .more)
 
 -- the text that is left where no place follows: two elements at most, the purge, and a line's end
-abbrev pub closing : State → Stamp → List ℕ
-closing s stamp = inkFrom (s .pen .col) (ahead s [] ++ (purgeElement stamp ∷ []))
+abbrev pub closing : End → State → Stamp → List ℕ
+closing end s stamp = inkFrom end (s .pen .col) (ahead s [] ++ (purgeElement stamp ∷ []))
 
 abbrev pub closeMost : ℕ
 closeMost = 3 * inkMost + 3
 
-pub record Closed (a b : List ℕ) (s : State) (stamp : Stamp) (r : ℕ) : Type 0 where
-  pub stored : Stored a b (s .pen .pos) r (closing s stamp)
+pub record Closed (end : End) (a b : List ℕ) (s : State) (stamp : Stamp) (r : ℕ) : Type 0 where
+  pub stored : Stored a b (s .pen .pos) r (closing end s stamp)
   pub far : r ≤ s .pen .pos + closeMost
 
 -- ---- the block

@@ -5,17 +5,18 @@ ghost use mathlib.Core.List.{[], _∷_};
 ghost use Prim.Native.Nat.{_+_, _*_, _%_, _≤_, _<_};
 ghost use lib.ListN.{length, getD, take};
 ghost use lib.Seq.{sets};
-ghost use Rattle.lines.specs.Bytes.{bytes};
+ghost use Rattle.lines.specs.Lines.{endBytes};
 ghost use Rattle.calendar.specs.Calendar.{isTime};
 ghost use Rattle.codes.specs.Places.{prefixes, placesEnd, twoBytes, threeBytes, prefixBytes, isSet};
 ghost use Rattle.codes.specs.Written.{joins, parted, newPrefix, upTo, elementOf, elementsOf, purgeElement, writtenMost, written};
 ghost use Rattle.writing.specs.Ink.{Open};
-ghost use Rattle.writing.specs.Write.{Writes};
+ghost use Rattle.writing.specs.Write.{WritesEnded, Writes};
 ghost use Rattle.writing.specs.Pen.{Stored, elementMost, runFrom, Room, inkMost, Inked, FineState, Turned, closeMost, Closed, blockMost, Composed};
 ghost use Rattle.codes.specs.Cursor.{paperLast};
 use calendar::Dated;
 use calendar::Stamp;
 use codes::Last;
+use lines::End;
 use refusal::Refusal;
 
 // ZZZ999 is the last place before this number.
@@ -36,7 +37,7 @@ pub enum Written {
     Refused(Refusal),
 }
 
-// Where the next byte goes, and how many bytes its line has.
+// Where the next byte goes, and how many bytes its line has. How lines end is handed on beside it: in the pen it would be copied at every element.
 struct Pen {
     pos: usize,
     col: usize,
@@ -81,13 +82,22 @@ fn is_last(last: Last, p: u32) -> bool
 }
 
 // An element's bytes go straight to their places in the output. Were it built by value, a copy of it would wait for each of its bytes.
+fn put_pair(out: &mut [u8], pos: usize, x: u8, y: u8) -> usize
+    requires { ⌜ pos + 2 ≤ length (now out) ⌝ }
+    ensures { λ r. ⌜ Stored (now (out .entry)) (now (out .exit)) pos r (x ∷ y ∷ []) ⌝ }
+{
+    out[pos] = x;
+    out[pos + 1] = y;
+    pos + 2
+}
+
 fn put_two(out: &mut [u8], pos: usize, n: usize) -> usize
     requires { ⌜ (pos + 2 ≤ length (now out)) × (n ≤ 99) ⌝ }
     ensures { λ r. ⌜ Stored (now (out .entry)) (now (out .exit)) pos r (twoBytes n) ⌝ }
 {
-    out[pos] = b'0' + (n / 10) as u8;
-    out[pos + 1] = b'0' + (n % 10) as u8;
-    pos + 2
+    let tens = b'0' + (n / 10) as u8;
+    let ones = b'0' + (n % 10) as u8;
+    put_pair(&mut *out, pos, tens, ones)
 }
 
 fn put_bytes(out: &mut [u8], pos: usize, x: u8, y: u8, z: u8) -> usize
@@ -212,48 +222,57 @@ fn put(out: &mut [u8], pos: usize, text: &[u8], n: usize)
     }
 }
 
-fn end_line(out: &mut [u8], pos: usize) -> usize
+fn end_line(out: &mut [u8], pos: usize, end: End) -> usize
     requires { ⌜ pos + 3 ≤ length (now out) ⌝ }
-    ensures { λ r. ⌜ Stored (now (out .entry)) (now (out .exit)) pos r (bytes "\r\r\n") ⌝ }
+    ensures { λ r. ⌜ Stored (now (out .entry)) (now (out .exit)) pos r (endBytes end) ⌝ }
+    ensures most { λ r. ⌜ r ≤ pos + 3 ⌝ }
 {
-    put_bytes(&mut *out, pos, b'\r', b'\r', b'\n')
+    match end {
+        End::Lf => {
+            out[pos] = b'\n';
+            pos + 1
+        }
+        End::CrLf => put_pair(&mut *out, pos, b'\r', b'\n'),
+        End::CrCrLf => put_bytes(&mut *out, pos, b'\r', b'\r', b'\n'),
+        End::Nothing => pos,
+    }
 }
 
 // Where an element of n bytes goes: in this line, or in a new one if it would carry this one too far.
-fn make_room(out: &mut [u8], pen: Pen, n: usize) -> Pen
+fn make_room(out: &mut [u8], pen: Pen, n: usize, end: End) -> Pen
     requires { ⌜ (n ≤ elementMost) × (pen .pos + 3 ≤ length (now out)) × (pen .col ≤ writtenMost) ⌝ }
-    ensures { λ r. ⌜ Room (now (out .entry)) (now (out .exit)) pen r n ⌝ }
+    ensures { λ r. ⌜ Room end (now (out .entry)) (now (out .exit)) pen r n ⌝ }
 {
     if pen.col + n <= WRITTEN_MOST {
         return pen;
     }
-    let start = end_line(&mut *out, pen.pos);
+    let start = end_line(&mut *out, pen.pos, end);
     Pen { pos: start, col: 0 }
 }
 
 // Sets the element of lo and so many more in the line, or in a new one.
-fn add(out: &mut [u8], pen: Pen, last: Last, lo: u32, more: u32) -> Pen
+fn add(out: &mut [u8], pen: Pen, last: Last, lo: u32, more: u32, end: End) -> Pen
     requires { ⌜ (lo < placesEnd) × (lo % 1000 + more ≤ 999) × (pen .pos + inkMost ≤ length (now out)) × (pen .col ≤ writtenMost) ⌝ }
-    ensures { λ r. ⌜ Inked (now (out .entry)) (now (out .exit)) pen r (elementOf (paperLast last) (runFrom lo more) ∷ []) ⌝ }
+    ensures { λ r. ⌜ Inked end (now (out .entry)) (now (out .exit)) pen r (elementOf (paperLast last) (runFrom lo more) ∷ []) ⌝ }
 {
     let n = element_length(last, lo, more);
-    let at = make_room(&mut *out, pen, n);
-    let end = put_element(&mut *out, at.pos, last, lo, more);
+    let at = make_room(&mut *out, pen, n, end);
+    let pos = put_element(&mut *out, at.pos, last, lo, more);
     Pen {
-        pos: end,
+        pos,
         col: at.col + n,
     }
 }
 
 // The same of the purge.
-fn add_purge(out: &mut [u8], pen: Pen, stamp: Stamp) -> Pen
+fn add_purge(out: &mut [u8], pen: Pen, stamp: Stamp, end: End) -> Pen
     requires { ⌜ (isTime stamp ≡ true) × (pen .pos + inkMost ≤ length (now out)) × (pen .col ≤ writtenMost) ⌝ }
-    ensures { λ r. ⌜ Inked (now (out .entry)) (now (out .exit)) pen r (purgeElement stamp ∷ []) ⌝ }
+    ensures { λ r. ⌜ Inked end (now (out .entry)) (now (out .exit)) pen r (purgeElement stamp ∷ []) ⌝ }
 {
-    let at = make_room(&mut *out, pen, PURGE_LENGTH);
-    let end = put_purge(&mut *out, at.pos, stamp);
+    let at = make_room(&mut *out, pen, PURGE_LENGTH, end);
+    let pos = put_purge(&mut *out, at.pos, stamp);
     Pen {
-        pos: end,
+        pos,
         col: at.col + PURGE_LENGTH,
     }
 }
@@ -266,23 +285,23 @@ fn joins(p: u32, q: u32) -> bool
 }
 
 // Writes a run: one of two as two singles, any other as one element.
-fn flush(out: &mut [u8], pen: Pen, last: Last, lo: u32, more: u32) -> Pen
+fn flush(out: &mut [u8], pen: Pen, last: Last, lo: u32, more: u32, end: End) -> Pen
     requires { ⌜ Open lo more × (lo + more < placesEnd) × (pen .pos + 2 * inkMost ≤ length (now out)) × (pen .col ≤ writtenMost) ⌝ }
-    ensures { λ r. ⌜ Inked (now (out .entry)) (now (out .exit)) pen r (elementsOf (paperLast last) (parted lo more)) ⌝ }
+    ensures { λ r. ⌜ Inked end (now (out .entry)) (now (out .exit)) pen r (elementsOf (paperLast last) (parted lo more)) ⌝ }
     ensures most { λ r. ⌜ r .pos ≤ pen .pos + 2 * inkMost ⌝ }
 {
     if more == 1 {
-        let next = add(&mut *out, pen, last, lo, 0);
+        let next = add(&mut *out, pen, last, lo, 0, end);
         let under = codes::wide(lo / 1000);
-        return add(&mut *out, next, Last::Prefix(under), lo + 1, 0);
+        return add(&mut *out, next, Last::Prefix(under), lo + 1, 0, end);
     }
-    add(&mut *out, pen, last, lo, more)
+    add(&mut *out, pen, last, lo, more, end)
 }
 
 // The next place: it joins the open run, or that is written and the place opens another.
-fn turn(out: &mut [u8], s: State, q: u32) -> State
+fn turn(out: &mut [u8], s: State, q: u32, end: End) -> State
     requires { ⌜ FineState s × (q < placesEnd) × (s .pen .pos + 2 * inkMost ≤ length (now out)) ⌝ }
-    ensures { λ r. ⌜ Turned (now (out .entry)) (now (out .exit)) s r q ⌝ }
+    ensures { λ r. ⌜ Turned end (now (out .entry)) (now (out .exit)) s r q ⌝ }
 {
     let pen = s.pen;
     let last = s.last;
@@ -296,7 +315,7 @@ fn turn(out: &mut [u8], s: State, q: u32) -> State
             more: more + 1,
         };
     }
-    let next = flush(&mut *out, pen, last, lo, more);
+    let next = flush(&mut *out, pen, last, lo, more, end);
     let under = codes::wide(lo / 1000);
     State {
         pen: next,
@@ -307,25 +326,25 @@ fn turn(out: &mut [u8], s: State, q: u32) -> State
 }
 
 // The open run, the purge and the line's end.
-fn close(out: &mut [u8], s: State, stamp: Stamp) -> usize
+fn close(out: &mut [u8], s: State, stamp: Stamp, end: End) -> usize
     requires { ⌜ FineState s × (isTime stamp ≡ true) × (s .pen .pos + closeMost ≤ length (now out)) ⌝ }
-    ensures { λ r. ⌜ Closed (now (out .entry)) (now (out .exit)) s stamp r ⌝ }
+    ensures { λ r. ⌜ Closed end (now (out .entry)) (now (out .exit)) s stamp r ⌝ }
 {
     let pen = s.pen;
     let last = s.last;
     let lo = s.lo;
     let more = s.more;
-    let a = flush(&mut *out, pen, last, lo, more);
-    let b = add_purge(&mut *out, a, stamp);
-    end_line(&mut *out, b.pos)
+    let a = flush(&mut *out, pen, last, lo, more, end);
+    let b = add_purge(&mut *out, a, stamp, end);
+    end_line(&mut *out, b.pos, end)
 }
 
 // Writes the block of these places and this purge to the front of out.
-fn compose(out: &mut [u8], places: &[u32], stamp: Stamp) -> usize
+fn compose(out: &mut [u8], places: &[u32], stamp: Stamp, end: End) -> usize
     requires { ⌜ isSet (now places) ≡ true ⌝ }
     requires { ⌜ isTime stamp ≡ true ⌝ }
     requires { ⌜ blockMost ≤ length (now out) ⌝ }
-    ensures { λ r. ⌜ Composed (now (out .entry)) (now (out .exit)) (written (now (places .entry)) stamp) r ⌝ }
+    ensures { λ r. ⌜ Composed (now (out .entry)) (now (out .exit)) (written end (now (places .entry)) stamp) r ⌝ }
 {
     let first = places[0];
     let mut s = State {
@@ -336,10 +355,10 @@ fn compose(out: &mut [u8], places: &[u32], stamp: Stamp) -> usize
     };
     let mut i = 1;
     while i < places.len() {
-        s = turn(&mut *out, s, places[i]);
+        s = turn(&mut *out, s, places[i], end);
         i += 1;
     }
-    close(&mut *out, s, stamp)
+    close(&mut *out, s, stamp, end)
 }
 
 fn refused(number: usize) -> Written
@@ -348,9 +367,9 @@ fn refused(number: usize) -> Written
     Written::Refused(Refusal { number, place: 0 })
 }
 
-// Writes the block of these places and this purge minute to the front of out. It is composed apart, so that an output that is too short stays as it was.
-pub fn write_block(out: &mut [u8], places: &[u32], purge: usize) -> Written
-    ensures { λ r. ⌜ Writes (now (out .entry)) (now (out .exit)) (now (places .entry)) purge r ⌝ }
+// Writes the block of these places and this purge minute to the front of out, its lines ending so. It is composed apart, so that an output that is too short stays as it was.
+pub fn write_ended(out: &mut [u8], places: &[u32], purge: usize, end: End) -> Written
+    ensures { λ r. ⌜ WritesEnded end (now (out .entry)) (now (out .exit)) (now (places .entry)) purge r ⌝ }
 {
     if is_set(places) {
         let Dated::On(date) = calendar::date_of(purge) else {
@@ -358,7 +377,7 @@ pub fn write_block(out: &mut [u8], places: &[u32], purge: usize) -> Written
         };
         let mut block = [0u8; 2048];
         let stamp = date.stamp;
-        let n = compose(&mut block, places, stamp);
+        let n = compose(&mut block, places, stamp, end);
         if out.len() < n {
             return refused(refusal::OUTPUT_SHORT);
         }
@@ -367,4 +386,11 @@ pub fn write_block(out: &mut [u8], places: &[u32], purge: usize) -> Written
     } else {
         refused(refusal::OUT_OF_RANGE)
     }
+}
+
+// The write call's block, whose lines end CR CR LF.
+pub fn write_block(out: &mut [u8], places: &[u32], purge: usize) -> Written
+    ensures { λ r. ⌜ Writes (now (out .entry)) (now (out .exit)) (now (places .entry)) purge r ⌝ }
+{
+    write_ended(&mut *out, places, purge, End::CrCrLf)
 }

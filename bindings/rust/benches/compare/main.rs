@@ -9,6 +9,9 @@ mod books;
 #[path = "../../tests/generate/element.rs"]
 #[allow(dead_code)]
 mod element;
+#[path = "../../tests/generate/ends.rs"]
+#[allow(dead_code)]
+mod ends;
 mod measure;
 #[path = "../../tests/plain/mod.rs"]
 mod plain;
@@ -21,9 +24,11 @@ use std::env;
 use std::hint::black_box;
 
 use books::Books;
+use ends::Ends;
 use hollgrimsa::{calls, BLOCK_MOST, BOOK_LENGTH, EDITED_MOST};
 use measure::{Lent, Table};
 use plain::book::layout;
+use plain::LineEnd;
 use rng::Rng;
 use texts::{Order, LENT};
 
@@ -37,8 +42,10 @@ fn main() {
     let typical = "2 KB, 3 segments";
     let long_texts: Vec<_> = books.iter().map(|books| books.text.clone()).collect();
     let typical_texts = texts::each(texts::typical);
+    let lf_texts = texts::each(texts::typical_with_lf);
     reading(&mut table, long, &long_texts);
     reading(&mut table, typical, &typical_texts);
+    lines_and_ends(&mut table);
     full_segments(&mut table);
     overfull_blocks(&mut table);
     draft_calls(&mut table, &books);
@@ -48,9 +55,11 @@ fn main() {
     edited(&mut table, long, &long_texts, |index| {
         books[index].full.clone()
     });
-    edited(&mut table, typical, &typical_texts, |index| {
-        books::with_one_step(&typical_texts[index])
-    });
+    for (name, texts) in [(typical, typical_texts), ("2 KB, 3 segments, LF", lf_texts)] {
+        edited(&mut table, name, &texts, |index| {
+            books::with_one_step(&texts[index])
+        });
+    }
     table.print();
 }
 
@@ -95,6 +104,25 @@ fn reading(table: &mut Table<'_>, name: &str, texts: &[Vec<u8>]) {
         |lent| calls::make(&mut lent.book, &lent.text, year, month),
         |lent| plain::make(&lent.text, year as usize, month as usize, &mut lent.book),
     );
+}
+
+/// Bulletins of lines of prose, short ones and none, with each of the line ends.
+fn lines_and_ends(table: &mut Table<'_>) {
+    for (lines, most) in [
+        ("lines of 0..66", 66),
+        ("lines of 0..3", 3),
+        ("empty lines", 0),
+    ] {
+        for (name, ends) in [
+            ("LF", Ends::All("\n")),
+            ("CR LF", Ends::All("\r\n")),
+            ("CR CR LF", Ends::All("\r\r\n")),
+            ("mixed ends", Ends::Mixed),
+        ] {
+            let texts = texts::each(|rng| texts::prose(rng, most, ends));
+            read(table, &format!("16 KB, {lines}, {name}"), None, &texts);
+        }
+    }
 }
 
 /// Bulletins of 8 segments with 120 places each.
@@ -241,7 +269,8 @@ fn writing(table: &mut Table<'_>, books: &[Books]) {
         &full,
         |lent| calls::write_block(&mut lent.out, &lent.places, purge.into()),
         |lent| {
-            let block = plain::written(&lent.places, purge);
+            let places = lent.places.iter().copied();
+            let block = plain::written(places, purge, LineEnd::CrCrLf);
             lent.out[..block.len()].copy_from_slice(&block);
             Ok(block.len())
         },

@@ -4,7 +4,9 @@
 use std::iter;
 
 use super::element::{self, push_prefix, Element};
-use super::{plain, Rng};
+use super::ends::Ends;
+use super::plain::{self, LineEnd};
+use super::Rng;
 use hollgrimsa::TEXT_MOST;
 
 /// How many texts there are of each kind.
@@ -56,7 +58,7 @@ pub fn each(kind: impl Fn(&mut Rng) -> Vec<u8>) -> Vec<Vec<u8>> {
 pub fn long(rng: &mut Rng) -> Vec<u8> {
     let mut text = [HEAD, MND].concat().into_bytes();
     for segment in 1..=8 {
-        text.extend(plain::written(&many_places(rng), purge(rng)));
+        push_written(rng, many_places, &mut text);
         let end = segment * (TEXT_MOST - 40) / 8;
         fill_lines(rng, end, &mut text);
         text.extend(END.bytes());
@@ -65,6 +67,12 @@ pub fn long(rng: &mut Rng) -> Vec<u8> {
     text.extend(iter::repeat_n(b'.', left - 1));
     text.push(b'\n');
     text
+}
+
+/// A block in its written form, of these places and a purge.
+fn push_written(rng: &mut Rng, places: fn(&mut Rng) -> Vec<u32>, text: &mut Vec<u8>) {
+    let (places, purge) = (places(rng), purge(rng));
+    text.extend(plain::written(places.into_iter(), purge, LineEnd::CrCrLf));
 }
 
 /// Lines up to about this length of the text.
@@ -101,11 +109,18 @@ fn purge(rng: &mut Rng) -> u32 {
 pub fn typical(rng: &mut Rng) -> Vec<u8> {
     let mut text = [HEAD, MND].concat().into_bytes();
     for segment in 1..=3 {
-        text.extend(plain::written(&few_places(rng), purge(rng)));
+        push_written(rng, few_places, &mut text);
         fill_lines(rng, 680 * segment, &mut text);
         text.extend(END.bytes());
         text.extend(b"\r\r\n");
     }
+    text
+}
+
+/// The same with LF alone at the end of each line.
+pub fn typical_with_lf(rng: &mut Rng) -> Vec<u8> {
+    let mut text = typical(rng);
+    text.retain(|&byte| byte != b'\r');
     text
 }
 
@@ -120,6 +135,39 @@ fn few_places(rng: &mut Rng) -> Vec<u32> {
         }
     }
     places
+}
+
+/// A bulletin of 8 segments with few places that fills a text, but for a part
+/// of a line, with lines of up to so many bytes.
+pub fn prose(rng: &mut Rng, most: usize, ends: Ends) -> Vec<u8> {
+    let words = LINES.concat().replace("\r\r\n", " ");
+    let mut text = Vec::with_capacity(TEXT_MOST);
+    push_ended(rng, ends, [HEAD, MND].concat().as_bytes(), &mut text);
+    for segment in 1..=8 {
+        let mut block = Vec::new();
+        push_written(rng, few_places, &mut block);
+        push_ended(rng, ends, &block, &mut text);
+        let longest = most + "\r\r\n".len();
+        while text.len() + longest + END.len() <= segment * TEXT_MOST / 8 {
+            let length = rng.within(0, most);
+            let start = rng.below(words.len() - length);
+            text.extend(words[start..][..length].bytes());
+            ends.push(rng, &mut text);
+        }
+        push_ended(rng, ends, END.as_bytes(), &mut text);
+    }
+    text
+}
+
+/// These lines with other ends.
+fn push_ended(rng: &mut Rng, ends: Ends, lines: &[u8], text: &mut Vec<u8>) {
+    for &byte in lines {
+        match byte {
+            b'\r' => {}
+            b'\n' => ends.push(rng, text),
+            _ => text.push(byte),
+        }
+    }
 }
 
 /// A bulletin of 8 segments with 120 places each, in elements of so many, and

@@ -1,39 +1,13 @@
-//! Place code blocks, and line ends.
+//! Place code blocks.
 
 use std::collections::BTreeSet;
 
 use super::element::{self, push_prefix, Element};
-use super::Rng;
+use super::{Ends, Rng};
 
 /// `MDC`, `VAZ`, `AAC`, `AAZ`, `ZZC`, `ZZZ`, `FLC` and `GMZ`.
 const PREFIXES: [usize; 8] = [630, 1093, 0, 1, 1350, 1351, 282, 337];
 const PLACES_END: usize = 1_352_000;
-
-/// Which line ends a text has.
-#[derive(Clone, Copy)]
-pub enum Ends {
-    All(&'static [u8]),
-    Mixed,
-}
-
-const LINE_ENDS: [&[u8]; 3] = [b"\n", b"\r\n", b"\r\r\n"];
-
-impl Ends {
-    pub fn any(rng: &mut Rng) -> Self {
-        match rng.below(4) {
-            3 => Ends::Mixed,
-            kind => Ends::All(LINE_ENDS[kind]),
-        }
-    }
-
-    pub fn push(self, rng: &mut Rng, out: &mut Vec<u8>) {
-        let end = match self {
-            Ends::All(end) => end,
-            Ends::Mixed => rng.pick(&LINE_ENDS),
-        };
-        out.extend_from_slice(end);
-    }
-}
 
 /// DDHHMM, in range; days that every month has come often.
 pub fn push_time(rng: &mut Rng, out: &mut Vec<u8>) {

@@ -1,7 +1,7 @@
 //! Bulletins.
 
-use super::block::{push_block, push_crowded_block, push_time, Ends};
-use super::Rng;
+use super::block::{push_block, push_crowded_block, push_time};
+use super::{Ends, Rng};
 
 /// The year and month lent with a text.
 pub type Lent = (usize, usize);
@@ -22,6 +22,11 @@ pub fn lent(rng: &mut Rng) -> Lent {
 /// A bulletin that is mostly right: short, with a few segments.
 pub fn text(rng: &mut Rng) -> Vec<u8> {
     let ends = Ends::any(rng);
+    text_ended(rng, ends)
+}
+
+/// The same, with these line ends.
+pub fn text_ended(rng: &mut Rng, ends: Ends) -> Vec<u8> {
     let segments = match rng.below(8) {
         0 => rng.within(7, 9),
         1 => 0,
@@ -61,12 +66,13 @@ pub fn long_text(rng: &mut Rng, length: usize) -> Vec<u8> {
     }
     while out.len() + 132 < length {
         push_words(rng, 132, &mut out);
-        out.push(b'\n');
+        ends.push(rng, &mut out);
     }
     let left = length.saturating_sub(out.len());
     if left > 0 {
-        out.resize(out.len() + left - 1, b'X');
-        out.push(b'\n');
+        let end = ends.pick(rng);
+        out.resize(out.len() + left.saturating_sub(end.len()), b'X');
+        out.extend(end.bytes());
     }
     out
 }

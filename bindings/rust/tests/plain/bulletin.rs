@@ -3,7 +3,7 @@
 use super::blocks;
 use super::calendar::{Issue, Month};
 use super::heading::{parse_identifier, Heading};
-use super::lines::{self, Lines};
+use super::lines::{self, Line, LineEnd, Lines};
 use super::refusal::{self, Refusal};
 use super::storm::{Mnd, Storm};
 
@@ -24,6 +24,8 @@ pub struct Bulletin {
 pub struct Segment {
     /// Where its first line starts.
     pub start: usize,
+    /// How its first line ends.
+    pub first_line_end: LineEnd,
     /// Where the line after its block starts.
     pub block_end: usize,
     /// Where the line after its `$$` starts.
@@ -81,41 +83,40 @@ pub fn view(text: &[u8], year: usize, month: usize, number: usize) -> Result<&[u
     Ok(&text[segment.start..segment.past])
 }
 
-/// Where the first segment starts; the lines go on with line 3.
-fn first_segment(text: &[u8], mut lines: Lines<'_>, mnd: &Mnd) -> Result<usize, Refusal> {
+/// The line that opens the first segment; the lines go on with line 3.
+fn first_segment<'a>(text: &'a [u8], mut lines: Lines<'a>, mnd: &Mnd) -> Result<Line<'a>, Refusal> {
     let none = Refusal::at(refusal::NO_SEGMENT, text.len());
     let line_3 = lines.next().ok_or(none)?;
     if line_3.is_blank() {
         next_opening(text, mnd.past).ok_or(none)
     } else if blocks::opens(line_3.content) {
-        Ok(line_3.start)
+        Ok(line_3)
     } else {
         Err(Refusal::at(refusal::BLOCK, line_3.start))
     }
 }
 
-/// The start of the first line from here on that opens a block.
-fn next_opening(text: &[u8], at: usize) -> Option<usize> {
-    Lines::from(text, at)
-        .find(|line| blocks::opens(line.content))
-        .map(|line| line.start)
+/// The first line from here on that opens a block.
+fn next_opening(text: &[u8], at: usize) -> Option<Line<'_>> {
+    Lines::from(text, at).find(|line| blocks::opens(line.content))
 }
 
-fn read_segments(text: &[u8], first: usize, issue: &Issue) -> Result<Vec<Segment>, Refusal> {
+fn read_segments(text: &[u8], first: Line<'_>, issue: &Issue) -> Result<Vec<Segment>, Refusal> {
     let mut segments = Vec::with_capacity(MAX_SEGMENTS);
     let mut next = Some(first);
-    while let Some(start) = next {
+    while let Some(opening) = next {
         if segments.len() == MAX_SEGMENTS {
-            return Err(Refusal::at(refusal::NINTH_SEGMENT, start));
+            return Err(Refusal::at(refusal::NINTH_SEGMENT, opening.start));
         }
-        let segment = read_segment(text, start, issue)?;
+        let segment = read_segment(text, opening, issue)?;
         next = next_opening(text, segment.past);
         segments.push(segment);
     }
     Ok(segments)
 }
 
-fn read_segment(text: &[u8], start: usize, issue: &Issue) -> Result<Segment, Refusal> {
+fn read_segment(text: &[u8], opening: Line<'_>, issue: &Issue) -> Result<Segment, Refusal> {
+    let start = opening.start;
     let block = blocks::read(text, start)?;
     let no_minute = Refusal::at(refusal::TIME, block.purge_start);
     let purge = issue.purge(block.purge).ok_or(no_minute)?;
@@ -125,6 +126,7 @@ fn read_segment(text: &[u8], start: usize, issue: &Issue) -> Result<Segment, Ref
     let end = end.ok_or(Refusal::at(refusal::NO_END, start))?;
     Ok(Segment {
         start,
+        first_line_end: opening.end,
         block_end: block.past,
         past: end.past,
         purge,

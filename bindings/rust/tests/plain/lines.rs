@@ -27,14 +27,41 @@ fn check_line(text: &[u8], start: usize) -> Result<usize, Refusal> {
     past_line_end(text, end).ok_or(Refusal::at(refusal::TEXT, end))
 }
 
-/// Where the next line starts, if a line end (LF, CR LF or CR CR LF) is here.
-pub fn past_line_end(text: &[u8], at: usize) -> Option<usize> {
-    match text.get(at..)? {
-        [b'\n', ..] => Some(at + 1),
-        [b'\r', b'\n', ..] => Some(at + 2),
-        [b'\r', b'\r', b'\n', ..] => Some(at + 3),
-        _ => None,
+/// How a line ends.
+#[derive(Clone, Copy, Debug, PartialEq, Eq)]
+pub enum LineEnd {
+    Lf,
+    CrLf,
+    CrCrLf,
+}
+
+impl LineEnd {
+    /// The line end that is here, if one is.
+    pub fn at(text: &[u8], at: usize) -> Option<Self> {
+        match text.get(at..)? {
+            [b'\n', ..] => Some(LineEnd::Lf),
+            [b'\r', b'\n', ..] => Some(LineEnd::CrLf),
+            [b'\r', b'\r', b'\n', ..] => Some(LineEnd::CrCrLf),
+            _ => None,
+        }
     }
+
+    pub fn bytes(self) -> &'static [u8] {
+        match self {
+            LineEnd::Lf => b"\n",
+            LineEnd::CrLf => b"\r\n",
+            LineEnd::CrCrLf => b"\r\r\n",
+        }
+    }
+
+    fn length(self) -> usize {
+        self.bytes().len()
+    }
+}
+
+/// Where the next line starts, if a line end is here.
+pub fn past_line_end(text: &[u8], at: usize) -> Option<usize> {
+    LineEnd::at(text, at).map(|end| at + end.length())
 }
 
 fn is_printable(byte: u8) -> bool {
@@ -65,6 +92,8 @@ pub struct Line<'a> {
     pub past: usize,
     /// Its bytes without its end.
     pub content: &'a [u8],
+    /// How it ends.
+    pub end: LineEnd,
 }
 
 impl Line<'_> {
@@ -101,13 +130,14 @@ impl<'a> Iterator for Lines<'a> {
 
     fn next(&mut self) -> Option<Line<'a>> {
         let start = self.at;
-        let end = start + printable_run(&self.text[start..]);
-        let past = past_line_end(self.text, end)?;
-        self.at = past;
+        let content_end = start + printable_run(&self.text[start..]);
+        let end = LineEnd::at(self.text, content_end)?;
+        self.at = content_end + end.length();
         Some(Line {
             start,
-            past,
-            content: &self.text[start..end],
+            past: self.at,
+            content: &self.text[start..content_end],
+            end,
         })
     }
 }

@@ -3,7 +3,7 @@
 use std::fmt::Write;
 
 use super::bulletin::{read, Bulletin, Segment};
-use super::lines;
+use super::lines::{self, LineEnd};
 use super::refusal::{self, Refusal};
 use super::written::compose;
 
@@ -62,7 +62,8 @@ fn list(bulletin: &Bulletin, out: &mut String) {
 fn list_segment(number: usize, segment: &Segment, out: &mut String) {
     let Segment { purge, places, .. } = segment;
     let _ = write!(out, "S {number} {purge} {} ", places.len());
-    compose(places.iter().copied(), *purge, |part| {
+    // Only the elements are listed, so that no line end shows.
+    compose(places.iter().copied(), *purge, LineEnd::Lf, |part| {
         if part.last() == Some(&b'-') {
             push_ascii(part, out);
         }

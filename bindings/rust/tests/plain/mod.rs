@@ -20,6 +20,7 @@ pub use book::{
     undo, write, write_edited,
 };
 pub use bulletin::{read, view, Bulletin, Segment};
+pub use lines::LineEnd;
 pub use listing::{listing, listing_of_input};
 pub use refusal::Refusal;
 pub use written::written;

@@ -1,26 +1,30 @@
 //! The written form of a block.
 
 use super::calendar::DayTime;
+use super::lines::LineEnd;
 
 /// The longest line, without its end.
 const MAX_LINE: usize = 66;
-const LINE_END: &[u8] = b"\r\r\n";
 /// More than 120 places and a purge can take: at most 7 bytes for each of
 /// them, on lines of 56 bytes or more.
 pub const ROOM: usize = 1024;
 
-/// The written block of these ascending places, line ends with it.
-pub fn written(places: &[u32], purge: u32) -> Vec<u8> {
+/// The written block of these ascending places, all its lines ended alike.
+pub fn written(places: impl Iterator<Item = u32>, purge: u32, end: LineEnd) -> Vec<u8> {
     let mut out = Vec::with_capacity(ROOM);
-    compose(places.iter().copied(), purge, |part| {
-        out.extend_from_slice(part)
-    });
+    compose(places, purge, end, |part| out.extend_from_slice(part));
     out
 }
 
 /// Hands the written block to `put`, part by part.
-pub fn compose(places: impl Iterator<Item = u32>, purge: u32, put: impl FnMut(&[u8])) {
-    let mut out = Folded { put, column: 0 };
+pub fn compose(
+    places: impl Iterator<Item = u32>,
+    purge: u32,
+    end: LineEnd,
+    put: impl FnMut(&[u8]),
+) {
+    let (end, column) = (end.bytes(), 0);
+    let mut out = Folded { put, end, column };
     let mut places = places.peekable();
     let mut prefix = None;
     while let Some(first) = places.next() {
@@ -59,6 +63,8 @@ pub fn compose(places: impl Iterator<Item = u32>, purge: u32, put: impl FnMut(&[
 /// Lines folded before the element that would carry them too far.
 struct Folded<F> {
     put: F,
+    /// What ends each line.
+    end: &'static [u8],
     column: usize,
 }
 
@@ -73,7 +79,7 @@ impl<F: FnMut(&[u8])> Folded<F> {
     }
 
     fn end_line(&mut self) {
-        (self.put)(LINE_END);
+        (self.put)(self.end);
         self.column = 0;
     }
 }

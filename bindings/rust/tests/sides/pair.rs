@@ -1,6 +1,7 @@
 //! Both sides at work on one book.
 
-use super::{Call, Core, Guarded, Plain, Tally, Told};
+use super::{Call, Core, Guarded, Plain, Tally, Text, Told};
+use crate::replay::Answer;
 
 /// The same book, worked on by both sides.
 #[derive(Clone)]
@@ -51,6 +52,17 @@ impl Pair {
             assert_eq!(written, untouched, "{call:?} is refused and writes");
         }
         (told, written.lent().to_vec())
+    }
+
+    /// Writes the edited bulletin of this text; answers its bytes.
+    pub fn write_edited(&mut self, text: &[u8], room: usize, tally: &mut Tally) -> Answer<Vec<u8>> {
+        let kept = text.to_vec();
+        let (told, mut output) = self.perform_seen(Call::WriteEdited(Text(text)), room, tally);
+        assert_eq!(text, kept, "the text was written to");
+        let (length, _) = told?;
+        let behind = output.split_off(length);
+        assert!(behind.iter().all(|&byte| byte == 0x5A), "later bytes stay");
+        Ok(output)
     }
 
     /// Where the two books differ first.

@@ -3,7 +3,7 @@
 use super::{Head, Reader, SegmentRead};
 use crate::plain::bulletin::{Bulletin, Segment};
 use crate::plain::lines::Lines;
-use crate::plain::{self, blocks, refusal, storm, Refusal};
+use crate::plain::{self, blocks, refusal, storm, LineEnd, Refusal};
 use crate::replay::{Answer, Calls};
 
 /// The first minute that no block can have as its purge: 2100-02-01 0000.
@@ -151,7 +151,8 @@ impl Reader for Plain {
         if !is_set(places) || purge >= MINUTES_END {
             return refused(refusal::OUT_OF_RANGE);
         }
-        let block = plain::written(places, purge as u32);
+        let places = places.iter().copied();
+        let block = plain::written(places, purge as u32, LineEnd::CrCrLf);
         match out.get_mut(..block.len()) {
             Some(front) => front.copy_from_slice(&block),
             None => return refused(refusal::SHORT_OUTPUT),

@@ -1,4 +1,4 @@
-use Rattle.bulletin.proofs.Fronts.{storm-none, storm-gone, storm-closed, storm-room, storm-right, storm-wrong}
+use Rattle.bulletin.proofs.Fronts.{storm-none, storm-closed, storm-room, storm-right, storm-wrong}
 use borrow.Author.Needs.{needs}
 use Rattle.bulletin.proofs.read_storm.Statement.{statement}
 use Rattle.bulletin.proofs.read_storm.Tie as tie
@@ -11,10 +11,6 @@ read-storm-spec =
     (λ c. search needs)
     (λ c. search needs)
     (λ c. search (storm-none, needs))
-    (λ c κs. search needs)
-    (λ c. search needs)
-    (λ c. search needs)
-    (λ c. search (storm-gone, needs))
     (λ c κs. search needs)
     (λ c κs. search needs)
     (λ c. search (storm-closed, needs))

@@ -8,7 +8,6 @@ is-last-spec =
     tie.close
     (tie.spec
     (λ c κs. search needs)
-    (λ c. search needs)
+    (λ c κs. search needs)
     (λ c. search (last-ended, needs))
-    (λ c. search needs)
     (λ c. search (last-none, needs)))

@@ -9,8 +9,8 @@ past-end-spec =
     tie.close
     (tie.spec
     (λ c κs. search needs)
-    (λ c. search needs)
-    (λ c. search needs)
-    (λ c. search (past-none, needs))
+    (λ c κs. search needs)
+    (λ c κs. search needs)
     (λ c. search (end-fits, needs))
-    (λ c. search (past-length, needs)))
+    (λ c. search (past-length, needs))
+    (λ c. search (past-none, needs)))

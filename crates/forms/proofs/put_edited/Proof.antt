@@ -1,6 +1,5 @@
 use Prim.Native.Nat.{_-_}
-use Rattle.forms.proofs.Putting.{Putting, putting-start, putting-fits, putting-kept, putting-block, putting-on}
-use Rattle.forms.proofs.Putting.{putting-rest, putting-done, putting-same}
+use Rattle.forms.proofs.Putting.{Putting, putting-start, putting-fits, putting-kept, putting-block, putting-on, putting-rest, putting-done, putting-same}
 use borrow.Author.Needs.{needs}
 use Rattle.forms.proofs.put_edited.Statement.{statement}
 use Rattle.forms.proofs.put_edited.Tie as tie
@@ -80,11 +79,11 @@ put-edited-spec =
     Inv-loop
     μ-loop
     loop-holds
-    mul-g
-    array-copy-out-g
     mul-next
     array-read-next
     add-next
+    mul-g
+    array-copy-out-g
     part-requires
     put-requires
     part-requires-2

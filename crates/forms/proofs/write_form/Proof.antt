@@ -1,6 +1,5 @@
 use Rattle.forms.proofs.Forming.{form-block, form-fits, form-few, form-written, form-refused}
 use borrow.Author.Needs.{needs}
-use borrow.Author.Needs.{needs}
 use Rattle.forms.proofs.write_form.Statement.{statement}
 use Rattle.forms.proofs.write_form.Tie as tie
 
@@ -13,17 +12,17 @@ load-requires c κs = (search needs, search (form-block, needs), search (form-fe
 cast-minute : tie.Need-cast-minute
 cast-minute c = search needs
 
-sub-write-block : tie.Need-sub-write-block
-sub-write-block c = search needs
+sub-write-ended : tie.Need-sub-write-ended
+sub-write-ended c = search needs
 
-part-write-block-start : tie.Need-part-write-block-start
-part-write-block-start c = search needs
+part-write-ended-start : tie.Need-part-write-ended-start
+part-write-ended-start c = search needs
 
-part-write-block-end : tie.Need-part-write-block-end
-part-write-block-end c = search needs
+part-write-ended-end : tie.Need-part-write-ended-end
+part-write-ended-end c = search needs
 
-write-block-requires : tie.Need-write-block-requires
-write-block-requires c κs = search needs
+write-ended-requires : tie.Need-write-ended-requires
+write-ended-requires c κs = search needs
 
 enum-known-n : tie.Need-enum-known-n
 enum-known-n c = search needs
@@ -50,10 +49,10 @@ write-form-spec =
     add-load
     load-requires
     cast-minute
-    sub-write-block
-    part-write-block-start
-    part-write-block-end
-    write-block-requires
+    sub-write-ended
+    part-write-ended-start
+    part-write-ended-end
+    write-ended-requires
     enum-known-n
     enum-told
     same-length

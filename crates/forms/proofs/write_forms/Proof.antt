@@ -1,17 +1,23 @@
 use Prim.Native.Nat.{_-_}
-use Rattle.forms.proofs.Forming.{Forming, forming-start, forming-same, forming-low, forming-total, forming-room, forming-on, forming-done}
+use Rattle.forms.proofs.Forming.{Forming, forming-start, forming-same, forming-held, forming-low, forming-total, forming-room, forming-on, forming-done}
 use borrow.Author.Needs.{needs}
 use Rattle.forms.proofs.write_forms.Statement.{statement}
 use Rattle.forms.proofs.write_forms.Tie as tie
 
 abbrev Inv-loop : tie.InvT-loop
-Inv-loop book n forms₀ each₀ total₀ i₀ forms each total i = Forming book forms₀ n each total i forms
+Inv-loop book forms₀ held n each₀ total₀ i₀ forms each total i = Forming held book forms₀ n each total i forms
 
 abbrev μ-loop : tie.MeasureT-loop
-μ-loop book n forms₀ each₀ total₀ i₀ forms each total i = n - i
+μ-loop book forms₀ held n each₀ total₀ i₀ forms each total i = n - i
 
 loop-holds : tie.Need-loop-holds Inv-loop μ-loop
 loop-holds c = search (forming-start, needs)
+
+mul-segment : tie.Need-mul-segment Inv-loop μ-loop
+mul-segment c = search needs
+
+array-copy-out-segment : tie.Need-array-copy-out-segment Inv-loop μ-loop
+array-copy-out-segment c = search (forming-held, needs)
 
 sub-write-form : tie.Need-sub-write-form Inv-loop μ-loop
 sub-write-form c = search (forming-total, needs)
@@ -41,7 +47,8 @@ loop-less : tie.Need-loop-less Inv-loop μ-loop
 loop-less c = search needs
 
 loop-again : tie.Need-loop-again Inv-loop μ-loop
-loop-again c = search (forming-on, needs)
+loop-again c =
+    forming-on _ _ _ _ _ _ _ _ (c .before .before .before .before .before .before .loop .inv) (search needs) _ _ _ (c .before .before .write-form .ensures)
 
 same-length : tie.Need-same-length Inv-loop μ-loop
 same-length c = search (forming-same, needs)
@@ -56,6 +63,8 @@ write-forms-spec =
     Inv-loop
     μ-loop
     loop-holds
+    mul-segment
+    array-copy-out-segment
     sub-write-form
     part-write-form-start
     part-write-form-end

@@ -1,4 +1,4 @@
-use Rattle.segments.proofs.Seeking.{after-none, after-at}
+use Rattle.segments.proofs.Seeking.{after-none, after-line}
 use borrow.Author.Needs.{needs}
 use Rattle.segments.proofs.after_first.Statement.{statement}
 use Rattle.segments.proofs.after_first.Tie as tie
@@ -11,5 +11,4 @@ after-first-spec =
     (λ c. search needs)
     (λ c. search needs)
     (λ c. search (after-none, needs))
-    (λ c κs. search needs)
-    (λ c. search (after-at, needs)))
+    (λ c. search (after-line, needs)))

@@ -1,5 +1,5 @@
 use Rattle.segments.proofs.Keeping.{kept-refused}
-use Rattle.segments.proofs.Stepping.{step-nothing, step-inside, step-ninth, step-begun}
+use Rattle.segments.proofs.Stepping.{step-nothing, step-line, step-ninth, step-begun}
 use borrow.Author.Needs.{needs}
 use Rattle.segments.proofs.next_segment.Statement.{statement}
 use Rattle.segments.proofs.next_segment.Tie as tie
@@ -7,8 +7,8 @@ use Rattle.segments.proofs.next_segment.Tie as tie
 first-opening-requires : tie.Need-first-opening-requires
 first-opening-requires c κs = search needs
 
-enum-known-start : tie.Need-enum-known-start
-enum-known-start c = search needs
+enum-known-opening : tie.Need-enum-known-opening
+enum-known-opening c = search needs
 
 enum-told : tie.Need-enum-told
 enum-told c = search needs
@@ -23,7 +23,7 @@ returns-2 : tie.Need-returns-2
 returns-2 c = (search (step-ninth, needs), search (kept-refused, needs))
 
 read-segment-requires : tie.Need-read-segment-requires
-read-segment-requires c κs = (search (step-inside, needs), search needs)
+read-segment-requires c κs = (search (step-line, needs), search needs)
 
 same-length : tie.Need-same-length
 same-length c = search needs
@@ -36,7 +36,7 @@ next-segment-spec =
     tie.close
     (tie.spec
     first-opening-requires
-    enum-known-start
+    enum-known-opening
     enum-told
     returns
     refused-requires

@@ -31,9 +31,6 @@ refused-requires c κs = search needs
 returns : tie.Need-returns
 returns c = (search (begun-endless, needs), search (kept-refused, needs))
 
-after-line-requires-2 : tie.Need-after-line-requires-2
-after-line-requires-2 c κs = search needs
-
 sub-keep : tie.Need-sub-keep
 sub-keep c = search needs
 
@@ -68,7 +65,6 @@ read-segment-spec =
     enum-told
     refused-requires
     returns
-    after-line-requires-2
     sub-keep
     part-keep-start
     part-keep-end

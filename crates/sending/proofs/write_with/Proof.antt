@@ -1,11 +1,10 @@
 use Rattle.sending.proofs.Ways.{text-most, held-count, total-fits, cuttable, edited-room, edited-short, edited-whole}
 use borrow.Author.Needs.{needs}
-use borrow.Author.Needs.{needs}
 use Rattle.sending.proofs.write_with.Statement.{statement}
 use Rattle.sending.proofs.write_with.Tie as tie
 
 write-forms-requires : tie.Need-write-forms-requires
-write-forms-requires c κs = (search needs, (search (held-count, needs), search needs))
+write-forms-requires c κs = (search needs, ((search (held-count, needs), search needs), search needs))
 
 kept-length-requires : tie.Need-kept-length-requires
 kept-length-requires c κs = (search (text-most, needs), search needs)

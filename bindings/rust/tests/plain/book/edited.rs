@@ -2,7 +2,7 @@
 
 use super::super::bulletin::{self, Segment};
 use super::super::refusal::{self, Refusal};
-use super::super::written;
+use super::super::written::written;
 use super::layout::{content, header, Block};
 use super::{issue_of, lent};
 
@@ -16,7 +16,7 @@ pub fn write_edited(text: &[u8], book: &[u8], output: &mut [u8]) -> Result<usize
     if bulletin.issue != issue.minute || bulletin.segments.len() != held.len() {
         return Err(Refusal::plain(refusal::NOT_BELONGING));
     }
-    let forms: Vec<Vec<u8>> = held.iter().map(form).collect();
+    let forms: Vec<Vec<u8>> = held.iter().zip(&bulletin.segments).map(form).collect();
     let parts = parts(text, &bulletin.segments, &forms);
     let length = parts.iter().map(|part| part.len()).sum();
     let mut room = output
@@ -30,13 +30,11 @@ pub fn write_edited(text: &[u8], book: &[u8], output: &mut [u8]) -> Result<usize
     Ok(length)
 }
 
-/// The written form of what a block holds.
-fn form(block: &Block) -> Vec<u8> {
-    let mut out = Vec::with_capacity(written::ROOM);
-    written::compose(content::places(block), content::purge(block), |part| {
-        out.extend_from_slice(part)
-    });
-    out
+/// The written form of what a block of the book holds, its lines ended as the
+/// segment's first line.
+fn form((block, segment): (&Block, &Segment)) -> Vec<u8> {
+    let (places, purge) = (content::places(block), content::purge(block));
+    written(places, purge, segment.first_line_end)
 }
 
 /// The text cut at its segments' blocks, with a form in each one's stead.

@@ -11,6 +11,7 @@ use layout::{content, header, Block, Blocks, Draft};
 
 use super::bulletin::{self, Segment};
 use super::calendar::Issue;
+use super::lines::LineEnd;
 use super::refusal::{self, Refusal};
 use super::written;
 
@@ -44,13 +45,15 @@ fn put_segment(block: &mut Block, segment: &Segment) {
     layout::seal(block);
 }
 
-/// Writes a segment's block into the output; answers its length.
+/// Writes a segment's block, its lines ended CR CR LF, into the output; answers
+/// its length.
 pub fn write(book: &[u8], segment: usize, output: &mut [u8]) -> Result<usize, Refusal> {
     let blocks = checked(book)?;
     let segment = &blocks[known_segment(&blocks[0], segment)?];
     let mut buffer = [0; written::ROOM];
     let mut length = 0;
-    written::compose(content::places(segment), content::purge(segment), |part| {
+    let (places, purge) = (content::places(segment), content::purge(segment));
+    written::compose(places, purge, LineEnd::CrCrLf, |part| {
         buffer[length..length + part.len()].copy_from_slice(part);
         length += part.len();
     });

@@ -2,17 +2,13 @@ use native.Mathlib.Omega.{arith}
 use lib.ListN.{length-set}
 use borrow.Author.Needs.{needs}
 use Rattle.writing.proofs.Spelling.{stored-two}
-use Rattle.writing.proofs.put_two.Statement.{statement}
-use Rattle.writing.proofs.put_two.Tie as tie
+use Rattle.writing.proofs.put_pair.Statement.{statement}
+use Rattle.writing.proofs.put_pair.Tie as tie
 
-pub put-two-spec : {M : Type 1} → statement M
-put-two-spec =
+pub put-pair-spec : {M : Type 1} → statement M
+put-pair-spec =
     tie.close
     (tie.spec
-    (λ c. search needs)
-    (λ c. search needs)
-    (λ c. search needs)
-    (λ c. search needs)
     (λ c. search needs)
     (λ c. search needs)
     (λ c. simp length-set (omega arith))

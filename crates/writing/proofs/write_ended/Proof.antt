@@ -1,10 +1,10 @@
 use Rattle.writing.proofs.Writing.{writes-no-set, writes-no-date, writes-set, writes-time, writes-short, writes-whole}
 use borrow.Author.Needs.{needs}
-use Rattle.writing.proofs.write_block.Statement.{statement}
-use Rattle.writing.proofs.write_block.Tie as tie
+use Rattle.writing.proofs.write_ended.Statement.{statement}
+use Rattle.writing.proofs.write_ended.Tie as tie
 
-pub write-block-spec : {M : Type 1} → statement M
-write-block-spec =
+pub write-ended-spec : {M : Type 1} → statement M
+write-ended-spec =
     tie.close
     (tie.spec
     (λ c κs. search needs)
