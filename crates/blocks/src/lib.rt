@@ -1,4 +1,6 @@
 // The 512-byte blocks of a book: document 01, "The book". These functions are for the book's own crates; a public call has tested what it hands to them.
+#![tactic(auto)]
+
 ghost use Rattle.std.specs.Prelude.{◌≡◌, ℕ, ◌+◌, ◌*◌, ◌≤◌, ◌<◌, length, get_or, take, drop};
 ghost use Rattle.std.proofs.Math.Option.{none, some};
 ghost use Rattle.std.proofs.lemmas.List.Edits.{sets};
@@ -11,7 +13,7 @@ ghost use Rattle.blocks.specs.Good.{is_used};
 ghost use Rattle.blocks.specs.Held.{held_content, Fits};
 
 // A content by value: the first `count` places are used.
-#[derive(Drop)]
+#[derive(Clone, Copy)]
 pub struct Held {
     pub purge: u32,
     pub places: [u32; 120],

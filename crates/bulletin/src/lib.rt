@@ -1,4 +1,6 @@
 // A whole bulletin: document 01, "Text and lines" and "Segments and place code blocks".
+#![tactic(auto)]
+
 ghost use Rattle.std.specs.Prelude.{◌≡◌, length, ◌≤◌};
 ghost use Rattle.bulletin.specs.Starts.{from_line3};
 ghost use Rattle.segments.specs.Search.{from_first, up_to_first, after_first, closes};
@@ -22,7 +24,7 @@ use lines::Lined;
 use refusal::{Refusal, Verdict};
 use segments::{Ending, Found, Segment, Segments, Sought};
 
-#[derive(Drop)]
+#[derive(Clone, Copy)]
 enum Stormed {
     Right(Storm),
     Refused(Refusal),
@@ -48,7 +50,7 @@ fn read_storm(text: &[u8], from: usize) -> Stormed
     }
 }
 
-#[derive(Drop)]
+#[derive(Clone, Copy)]
 enum Start {
     From(usize),
     Refused(Refusal),
@@ -77,7 +79,7 @@ fn first_place(text: &[u8], third: usize, mnd: usize) -> Start
     })
 }
 
-#[derive(Drop)]
+#[derive(Clone, Copy)]
 struct Top {
     heading: Heading,
     identifier: usize,
@@ -85,7 +87,7 @@ struct Top {
     third: usize,
 }
 
-#[derive(Drop)]
+#[derive(Clone, Copy)]
 enum Topped {
     Right(Top),
     Refused(Refusal),
@@ -156,7 +158,7 @@ fn read_top(text: &[u8], year: usize, month: usize) -> Topped
 }
 
 // What the lines above the first segment say.
-#[derive(Drop)]
+#[derive(Clone, Copy)]
 pub struct Head {
     pub heading: Heading,
     pub identifier: usize,
@@ -164,13 +166,13 @@ pub struct Head {
     pub storm: Storm,
 }
 
-#[derive(Drop)]
+#[derive(Clone, Copy)]
 pub enum Reading {
     Accepted(Head),
     Refused(Refusal),
 }
 
-#[derive(Drop)]
+#[derive(Clone, Copy)]
 pub struct Bulletin {
     pub reading: Reading,
     pub segments: Segments,
@@ -275,7 +277,7 @@ pub fn read(text: &[u8], year: usize, month: usize) -> Bulletin
     read_into(text, year, month, &mut none)
 }
 
-#[derive(Drop)]
+#[derive(Clone, Copy)]
 pub enum Viewed {
     One(Segment),
     Refused(Refusal),

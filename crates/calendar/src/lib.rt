@@ -1,4 +1,6 @@
 // Dates, minutes and the purge rule of document 01, "Time", as document 02, R-2, amends it.
+#![tactic(auto)]
+
 ghost use Rattle.std.specs.Prelude.{◌≡◌, ◌+◌, ◌-◌, ◌*◌, ◌≤◌, cond, ltb};
 ghost use Rattle.calendar.specs.Calendar.{is_issue_month, is_month, is_time, minute_of, date_of};
 ghost use Rattle.calendar.specs.Purge.{purge_of};
@@ -9,14 +11,14 @@ ghost use Rattle.calendar.specs.Serving.{Time};
 use months::Found;
 
 // DDHHMM.
-#[derive(Drop)]
+#[derive(Clone, Copy)]
 pub struct Stamp {
     pub day: usize,
     pub hour: usize,
     pub minute: usize,
 }
 
-#[derive(Drop)]
+#[derive(Clone, Copy)]
 pub struct Date {
     pub year: usize,
     pub month: usize,
@@ -24,13 +26,13 @@ pub struct Date {
 }
 
 // A minute, counted from 1970-01-01 0000 UTC.
-#[derive(Drop)]
+#[derive(Clone, Copy)]
 pub enum Moment {
     At(usize),
     Nothing,
 }
 
-#[derive(Drop)]
+#[derive(Clone, Copy)]
 pub enum Dated {
     On(Date),
     Nothing,
@@ -146,7 +148,7 @@ pub fn purge_of(issue: usize, s: Stamp) -> Moment
 }
 
 // The minutes that are their own purge minute under an issue. It is worked out once for the issue, and then asked of each minute.
-#[derive(Drop)]
+#[derive(Clone, Copy)]
 pub struct Window {
     // The earliest minute, how long after its month's start it is, and how long that month lasts.
     pub from: usize,
@@ -161,7 +163,7 @@ pub struct Window {
     pub end: usize,
 }
 
-#[derive(Drop)]
+#[derive(Clone, Copy)]
 pub enum Windowed {
     Is(Window),
     Nothing,

@@ -1,4 +1,6 @@
 // The check of a 512-byte block, and blocks of zeros: document 01, "The book". These functions are for the crate of a book's blocks and those above it; a public call has tested what it hands to them.
+#![tactic(auto)]
+
 ghost use Rattle.std.specs.Prelude.{◌≡◌, ◌≤◌, ◌<◌, length, set, replicate};
 ghost use Rattle.std.proofs.Math.Seq.{slice};
 ghost use Rattle.checks.specs.Seal.{block_length, check_of, sealed, checked, all_zero};

@@ -1,4 +1,6 @@
 // Place code blocks, read: document 01, "Segments and place code blocks".
+#![tactic(auto)]
+
 ghost use Rattle.std.specs.Prelude.{◌≡◌, ◌+◌, ◌-◌, ◌≤◌, ◌<◌, true, cond, eqb, length, drop};
 ghost use Rattle.lines.specs.Bytes.{word, begins};
 ghost use Rattle.lines.specs.Lines.{prefix_form, three_digits};
@@ -9,21 +11,21 @@ ghost use Rattle.codes.specs.Cursor.{paper_last, element_at, covered_at, Usual, 
 use calendar::Stamp;
 
 // The last prefix of this block.
-#[derive(Drop)]
+#[derive(Clone, Copy)]
 pub enum Last {
     Prefix(usize),
     Nothing,
 }
 
 // What an element covers: under a prefix, the numbers from one to another, with the place behind the element. The purge and a wrong one cover nothing.
-#[derive(Drop)]
+#[derive(Clone, Copy)]
 enum Covered {
     Numbers(usize, usize, usize, usize),
     Nothing,
 }
 
 // The reading place: it stands at an element's first byte.
-#[derive(Drop)]
+#[derive(Clone, Copy)]
 pub struct Cursor {
     pub at: usize,
     pub last: Last,
@@ -32,7 +34,7 @@ pub struct Cursor {
 // What the element at the reading place says, under a prefix the numbers from one to another, and the place moved past it. The numbers are as wide as places: two of 32
 // bits, stored one by one and read back as one word, would stall the machine. For the same reason a loop puts its next place together from the prefix and `next.at`:
 // copied, it would wait for the byte that tells which case `last` is.
-#[derive(Drop)]
+#[derive(Clone, Copy)]
 pub enum Step {
     Covers(usize, usize, usize, Cursor),
     // DDHHMM, and the place of its element.

@@ -1,5 +1,7 @@
 // What the calls of a draft share: whether a draft may work on a segment, and where its copy of the segment stands.
 // For the book's own crates: a public call asks with `admit` before it asks `find_copy`.
+#![tactic(auto)]
+
 ghost use Rattle.std.specs.Prelude.{◌≡◌, length};
 ghost use Rattle.refusal.specs.Answer.{paper_verdict};
 ghost use Rattle.blocks.specs.Block.{book_length};
@@ -11,7 +13,7 @@ ghost use Rattle.copies.specs.Copies.{paper_copy, copy_block, Admitted};
 use refusal::{Refusal, Verdict};
 
 // Where a draft's copy of a segment stands: the block's number.
-#[derive(Drop)]
+#[derive(Clone, Copy)]
 pub enum Found {
     Copy(usize),
     NotTaken,

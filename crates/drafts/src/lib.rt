@@ -1,5 +1,7 @@
 // The calls that open, fill, read and drop a draft: document 01, "Steps".
 // What they share stands in `copies`, the changes of a copy in `edits`, commit and undo in `history`.
+#![tactic(auto)]
+
 ghost use Rattle.std.specs.Prelude.{◌≡◌, true, ◌≤◌, length};
 ghost use Rattle.blocks.specs.Block.{book_length};
 ghost use Rattle.steps.specs.Book.{draft_at};
@@ -15,7 +17,7 @@ use layout::Reply;
 use refusal::Verdict;
 
 // A closed draft's number, or that all four are open.
-#[derive(Drop)]
+#[derive(Clone, Copy)]
 enum Lowest {
     Draft(usize),
     Nothing,

@@ -1,4 +1,6 @@
 // The changes of a draft's copy: document 01, "Steps". `copies` tells whether a draft may work on a segment, and finds its copy.
+#![tactic(auto)]
+
 ghost use Rattle.std.specs.Prelude.{◌≡◌, true, false, ◌<◌, length};
 ghost use Rattle.std.proofs.Math.Option.{some};
 ghost use Rattle.codes.specs.Places.{capacity, ascends};

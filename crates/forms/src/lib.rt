@@ -1,4 +1,6 @@
 // The new blocks of an edited bulletin, and the text with them: document 02, R-1.
+#![tactic(auto)]
+
 ghost use Rattle.std.specs.Prelude.{◌≡◌, ◌+◌, ◌≤◌, ◌<◌, length, get_or};
 ghost use Rattle.segments.specs.Seen.{segments_held, Sized};
 ghost use Rattle.writing.specs.Pen.{Stored, written_block_most};
@@ -11,7 +13,7 @@ use segments::Segments;
 use writing::Written;
 
 // The lengths of the written forms of a book's segments, and their sum.
-#[derive(Drop)]
+#[derive(Clone, Copy)]
 pub struct Sizes {
     pub each: [usize; 8],
     pub total: usize,

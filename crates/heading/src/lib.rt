@@ -1,4 +1,6 @@
 // Line 1, line 2 and the office line of a bulletin: document 01, "Text and lines".
+#![tactic(auto)]
+
 ghost use Rattle.std.specs.Prelude.{◌≡◌, ◌-◌, ◌≤◌, ◌<◌, length, get_or, drop};
 ghost use Rattle.lines.specs.Bytes.{between, begins};
 ghost use Rattle.heading.specs.Heading.{times, heading_form, heading_of, capital_or_digit, is_identifier};
@@ -8,25 +10,25 @@ ghost use Rattle.heading.specs.Paper.{is_amended, paper_headed, paper_basin_foun
 use calendar::Stamp;
 
 // BBB.
-#[derive(Drop)]
+#[derive(Clone, Copy)]
 pub enum Bbb {
     Nothing,
     Code(u8, u8, u8),
 }
 
-#[derive(Drop)]
+#[derive(Clone, Copy)]
 pub struct Heading {
     pub stamp: Stamp,
     pub bbb: Bbb,
 }
 
-#[derive(Drop)]
+#[derive(Clone, Copy)]
 pub enum Headed {
     Right(Heading),
     Wrong,
 }
 
-#[derive(Drop)]
+#[derive(Clone, Copy)]
 pub enum Basin {
     Al,
     Sl,
@@ -35,7 +37,7 @@ pub enum Basin {
     Wp,
 }
 
-#[derive(Drop)]
+#[derive(Clone, Copy)]
 pub enum Class {
     Cyclone,
     Internal,
@@ -43,7 +45,7 @@ pub enum Class {
     Disturbance,
 }
 
-#[derive(Drop)]
+#[derive(Clone, Copy)]
 pub struct StormId {
     pub basin: Basin,
     pub class: Class,
@@ -51,25 +53,25 @@ pub struct StormId {
     pub year: usize,
 }
 
-#[derive(Drop)]
+#[derive(Clone, Copy)]
 pub enum Storm {
     None,
     Found(StormId),
 }
 
-#[derive(Drop)]
+#[derive(Clone, Copy)]
 pub enum Named {
     Right(Storm),
     Wrong,
 }
 
-#[derive(Drop)]
+#[derive(Clone, Copy)]
 enum BasinFound {
     In(Basin),
     Nothing,
 }
 
-#[derive(Drop)]
+#[derive(Clone, Copy)]
 enum ClassFound {
     Of(Class),
     Nothing,

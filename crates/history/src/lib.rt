@@ -1,4 +1,6 @@
 // Commit and undo: document 01, "Steps".
+#![tactic(auto)]
+
 ghost use Rattle.std.specs.Prelude.{◌≡◌, true, List, ℕ, ◌+◌, ◌*◌, ◌≤◌, ◌<◌, length, get_or};
 ghost use Rattle.laws.specs.Lists.{All};
 ghost use Rattle.blocks.specs.Block.{block_count, book_length};
@@ -17,7 +19,7 @@ ghost use Rattle.steps.specs.Calls as calls;
 use layout::{Changed, Reply};
 
 // Segments, ascending, each with the block of a draft or a step that holds what the segment is to hold.
-#[derive(Drop)]
+#[derive(Clone, Copy)]
 enum Found {
     Nothing,
     One(usize, usize),

@@ -1,1 +1,3 @@
 // Every step of a book keeps it sound: theorems over the rules of layout. No code.
+#![tactic(auto)]
+

@@ -28,6 +28,7 @@ all_map f all_nil = all_nil
 all_map f (all_cons {x} p a) = all_cons (f x p) (all_map f a)
 
 pub all_at : {A : Type 0} {P : A → Type 0} {x : A} {l : List A} → All P l → Memᴰ x l → P x
+all_at {A = A} {P = P} all_nil m = elim m [ ]
 all_at {P} (all_cons p a) (Memᴰ.head e) = subst P (sym e) p
 all_at (all_cons p a) (Memᴰ.tail m) = all_at a m
 

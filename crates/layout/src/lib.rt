@@ -1,4 +1,6 @@
 // The book: document 01, "The book". Its layout, its soundness, and what its calls answer.
+#![tactic(auto)]
+
 ghost use Rattle.std.specs.Prelude.{◌≡◌, true, ◌≤◌, ◌<◌, length};
 ghost use Rattle.calendar.specs.Window.{WindowOf};
 ghost use Rattle.codes.specs.Places.{upward};
@@ -13,7 +15,7 @@ use calendar::Windowed;
 use refusal::Refusal;
 
 // Segments that changed, ascending.
-#[derive(Drop)]
+#[derive(Clone, Copy)]
 pub enum Changed {
     Nothing,
     One(usize),
@@ -21,7 +23,7 @@ pub enum Changed {
 }
 
 // The answer of a call on a book.
-#[derive(Drop)]
+#[derive(Clone, Copy)]
 pub enum Reply {
     Draft(usize),
     Done,

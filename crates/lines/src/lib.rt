@@ -1,4 +1,6 @@
 // The lines of a text, by places: document 01, "Text and lines".
+#![tactic(auto)]
+
 ghost use Rattle.std.specs.Prelude.{◌≡◌, ◌+◌, ◌-◌, min, ◌≤◌, ◌<◌, length, get_or, drop, cond};
 ghost use Rattle.refusal.specs.Numbers.{wrong_text};
 ghost use Rattle.refusal.specs.Answer.{refusal_for, paper_verdict};
@@ -12,7 +14,7 @@ ghost use Rattle.lines.specs.Printables.{printables, Passed, Ambled};
 use refusal::{Refusal, Verdict};
 
 // A line's places: its bytes are start..end, and the next line starts at next; and how it ended.
-#[derive(Drop)]
+#[derive(Clone, Copy)]
 pub struct Span {
     pub start: usize,
     pub end: usize,
@@ -21,14 +23,14 @@ pub struct Span {
 }
 
 // The line that was asked for, or none.
-#[derive(Drop)]
+#[derive(Clone, Copy)]
 pub enum Lined {
     Line(Span),
     Nothing,
 }
 
 // How a line ended; Nothing is that of a last line that does not end.
-#[derive(Drop)]
+#[derive(Clone, Copy)]
 pub enum End {
     Lf,
     CrLf,

@@ -1,4 +1,6 @@
 // The listing program: `YYYY MM` and LF, then a bulletin; it prints the heading and each segment, or the refusal.
+#![tactic(auto)]
+
 use libc::STDIN_FILENO;
 use printing::Asked;
 use refusal::Refusal;

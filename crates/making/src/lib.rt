@@ -1,4 +1,6 @@
 // Make and write: document 01, "Steps".
+#![tactic(auto)]
+
 ghost use Rattle.std.specs.Prelude.{◌≡◌, true, [], ◌<◌, length};
 ghost use Rattle.laws.specs.Lists.{All};
 ghost use Rattle.blocks.specs.Block.{book_length};

@@ -1,10 +1,12 @@
 // The months of document 01, "Time": their lengths, and the minutes at which they start.
+#![tactic(auto)]
+
 ghost use Rattle.std.specs.Prelude.{◌≡◌, ◌+◌, ◌*◌, ◌≤◌};
 ghost use Rattle.months.specs.Months.{month_number, days_in, start_of, month_of};
 ghost use Rattle.months.specs.Serving.{Twelve, InYear, length_in, month_in, paper_found};
 
 // A month of the calendar: where it starts, in minutes, and its days.
-#[derive(Drop)]
+#[derive(Clone, Copy)]
 pub struct Month {
     pub year: usize,
     pub month: usize,
@@ -12,7 +14,7 @@ pub struct Month {
     pub days: usize,
 }
 
-#[derive(Drop)]
+#[derive(Clone, Copy)]
 pub enum Found {
     In(Month),
     Nothing,

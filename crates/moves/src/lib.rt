@@ -1,5 +1,7 @@
 // Changes of a book in place: document 01, "The book". Each says what book lies in the bytes after it, if one lay in them before; the check of block 0 is stored last, by `seal_index`.
 // These functions are for the book's own calls, which have tested what they hand on.
+#![tactic(auto)]
+
 ghost use Rattle.std.specs.Prelude.{◌≡◌, Bool, false, List, [], ◌∷◌, ◌++◌, map, ℕ, ◌+◌, ◌*◌, ◌≤◌, ◌<◌, length, get_or, drop};
 ghost use Rattle.std.proofs.Math.Option.{some};
 ghost use Rattle.laws.specs.Lists.{All};

@@ -1,4 +1,6 @@
 // How the answer of a call becomes one number of 64 bits: specs/Packing.antt says how, with the way back.
+#![tactic(auto)]
+
 ghost use Rattle.std.specs.Prelude.{◌≡◌, ◌-◌, ◌%◌, ◌≤◌, ◌<◌};
 ghost use Rattle.refusal.specs.Answer.{paper_verdict};
 ghost use Rattle.writing.specs.Write.{paper_written};

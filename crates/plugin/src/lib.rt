@@ -1,5 +1,7 @@
 // The library for programs in other languages: every public call of the reader, the writer and the book, over numbers of 64 bits and lent bytes. An answer is one
 // number: the crate `packing` says how, and the header include/hollgrimsa.h has the same for C.
+#![tactic(auto)]
+
 ghost use Rattle.std.specs.Prelude.{◌≡◌, length};
 ghost use Rattle.codes.specs.Block.{content_at};
 ghost use Rattle.lines.specs.declared.End.TheVariants.{CrCrLf};

@@ -1,4 +1,6 @@
 // What the programs read and print: the time that a bulletin is read under, and the listing of a bulletin.
+#![tactic(auto)]
+
 ghost use Rattle.std.specs.Prelude.{◌≡◌, ◌≤◌, length, get_or};
 ghost use Rattle.lines.specs.Bytes.{digit};
 ghost use Rattle.printing.specs.Asked.{asked_of};
@@ -13,7 +15,7 @@ use segments::Segment;
 use writing::Written;
 
 // The year and month that the first line names.
-#[derive(Drop)]
+#[derive(Clone, Copy)]
 pub enum Asked {
     Month(usize, usize),
     Wrong,

@@ -1,4 +1,6 @@
 // Place code blocks, read whole: document 01, "Segments and place code blocks".
+#![tactic(auto)]
+
 ghost use Rattle.std.specs.Prelude.{◌≡◌, []};
 ghost use Rattle.std.proofs.Math.Option.{some};
 ghost use Rattle.codes.specs.Block.{read_block, twice_at};
@@ -14,7 +16,7 @@ use repeats::Twice;
 use sets::{Places, Put};
 
 // A whole block's DDHHMM and the place of its element; the place of the first element that covers a place already covered; or that of the first wrong element.
-#[derive(Drop)]
+#[derive(Clone, Copy)]
 pub enum Found {
     Whole(Stamp, usize),
     Twice(usize),
@@ -22,7 +24,7 @@ pub enum Found {
 }
 
 // A block, with its places, or that they are over 120. Of those, and of any other block than a whole one, none are held.
-#[derive(Drop)]
+#[derive(Clone, Copy)]
 pub struct Block {
     pub found: Found,
     pub over: bool,
@@ -30,21 +32,21 @@ pub struct Block {
 }
 
 // A purge minute and the place of the purge element.
-#[derive(Drop)]
+#[derive(Clone, Copy)]
 pub enum Purge {
     At(usize, usize),
     Refused(Refusal),
 }
 
 // A segment's purge and its places; on a refusal no places.
-#[derive(Drop)]
+#[derive(Clone, Copy)]
 pub struct Content {
     pub purge: Purge,
     pub places: Places,
 }
 
 // Where a block ends: its DDHHMM and the place of its element, or the place of the first wrong element.
-#[derive(Drop)]
+#[derive(Clone, Copy)]
 enum Rest {
     Purge(Stamp, usize),
     Wrong(usize),

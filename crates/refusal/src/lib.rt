@@ -1,4 +1,6 @@
 // The numbered refusals of documents 01 and 02. No other crate writes a refusal's number.
+#![tactic(auto)]
+
 pub const WRONG_LENGTH: usize = 1;
 
 pub const WRONG_TEXT: usize = 2;
@@ -51,14 +53,14 @@ pub const PLACE_TWICE: usize = 25;
 
 pub const NOT_BELONGING: usize = 27;
 
-#[derive(Drop)]
+#[derive(Clone, Copy)]
 pub struct Refusal {
     pub number: usize,
     pub place: usize,
 }
 
 // The answer of a call that gives no value.
-#[derive(Drop)]
+#[derive(Clone, Copy)]
 pub enum Verdict {
     Accepted,
     Refused(Refusal),

@@ -1,4 +1,6 @@
 // The first element of a block that covers a place already covered, however many places the block has: document 02, R-3.
+#![tactic(auto)]
+
 ghost use Rattle.std.specs.Prelude.{◌≡◌, not, [], ◌+◌, ◌-◌, ◌*◌, ◌≤◌, ◌<◌, eqb, length, get_or, set};
 ghost use Rattle.std.proofs.Math.Option.{none};
 ghost use Rattle.std.specs.Int.Bits.{bit_and, bit_or};
@@ -11,7 +13,7 @@ ghost use Rattle.repeats.specs.Passes.{paper_twice, earlier, nearest, coverings,
 use codes::{Cursor, Last, Step};
 
 // The place of an element that covers a place already covered.
-#[derive(Drop)]
+#[derive(Clone, Copy)]
 pub enum Twice {
     At(usize),
     Nothing,
@@ -19,7 +21,7 @@ pub enum Twice {
 
 // Whether every element starts behind the end of all before it, whether every one ends before the start of all before it, and the lowest
 // prefix, or PAST.
-#[derive(Drop)]
+#[derive(Clone, Copy)]
 struct Outline {
     rises: bool,
     falls: bool,
@@ -27,7 +29,7 @@ struct Outline {
 }
 
 // What is found in a window, and the prefix from which the next one starts, or PAST.
-#[derive(Drop)]
+#[derive(Clone, Copy)]
 struct Pass {
     found: Twice,
     next: usize,

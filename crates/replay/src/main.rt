@@ -1,4 +1,6 @@
 // The replay program: bulletins, and after each a list of calls on its book; it prints a line for each.
+#![tactic(auto)]
+
 ghost use Rattle.std.specs.Prelude.{◌≡◌, false, cond, ◌+◌, ◌*◌, ◌≤◌, ◌<◌, length, get_or, drop};
 ghost use Rattle.std.proofs.Math.Option.{none, some};
 ghost use Rattle.lines.specs.Bytes.{lf};
@@ -28,14 +30,14 @@ const TEXT: usize = 99999;
 
 // ---- call lines
 // A number, and where its digits end.
-#[derive(Drop)]
+#[derive(Clone, Copy)]
 struct Number {
     value: usize,
     end: usize,
 }
 
 // A call line: its first byte and the numbers behind it; not known where it has another form.
-#[derive(Drop)]
+#[derive(Clone, Copy)]
 struct Line {
     known: bool,
     kind: u8,
@@ -129,7 +131,7 @@ fn line_end(input: &[u8], at: usize) -> usize
 
 // ---- where a case starts
 // A bulletin's place in the input, and the time that it is read under.
-#[derive(Drop)]
+#[derive(Clone, Copy)]
 struct Source {
     year: usize,
     month: usize,
@@ -137,7 +139,7 @@ struct Source {
     end: usize,
 }
 
-#[derive(Drop)]
+#[derive(Clone, Copy)]
 enum Opening {
     Case(Source),
     Wrong,
@@ -475,7 +477,7 @@ fn act(buffer: &mut [u8], lent: usize, text: &[u8], source: Source, line: Line) 
 }
 
 // How far a case has come: where its text stands in the input, where its next line starts, and how much of the buffer is lent.
-#[derive(Drop)]
+#[derive(Clone, Copy)]
 struct Progress {
     start: usize,
     end: usize,

@@ -1,4 +1,6 @@
 // The segments of a bulletin: the search over lines, and each segment in its turn. Document 01, "Segments and place code blocks".
+#![tactic(auto)]
+
 ghost use Rattle.std.specs.Prelude.{◌≡◌, ◌≤◌, length};
 ghost use Rattle.std.proofs.Math.Option.{some};
 ghost use Rattle.codes.specs.Places.{capacity};
@@ -17,14 +19,14 @@ use reading::Purge;
 use refusal::Refusal;
 
 // A line, or none.
-#[derive(Drop)]
+#[derive(Clone, Copy)]
 pub enum Found {
     Line(Span),
     Nothing,
 }
 
 // What a search over lines looks for.
-#[derive(Drop)]
+#[derive(Clone, Copy)]
 pub enum Sought {
     End,
     Blank,
@@ -135,7 +137,7 @@ pub fn after_first(text: &[u8], from: usize, sought: Sought) -> usize
 
 // A segment: its first byte's place, where its block starts too, the place after its block's last line, the place after its `$$` line, how its first line ended, its
 // purge minute and how many places it has.
-#[derive(Drop)]
+#[derive(Clone, Copy)]
 pub struct Segment {
     pub start: usize,
     pub block: usize,
@@ -145,26 +147,26 @@ pub struct Segment {
     pub count: usize,
 }
 
-#[derive(Drop)]
+#[derive(Clone, Copy)]
 pub struct Segments {
     pub held: [Segment; 8],
     pub count: usize,
 }
 
-#[derive(Drop)]
+#[derive(Clone, Copy)]
 enum Next {
     One(Segment),
     Nothing,
     Refused(Refusal),
 }
 
-#[derive(Drop)]
+#[derive(Clone, Copy)]
 pub enum Ending {
     Whole,
     Refused(Refusal),
 }
 
-#[derive(Drop)]
+#[derive(Clone, Copy)]
 pub struct Listed {
     pub ending: Ending,
     pub segments: Segments,

@@ -1,4 +1,6 @@
 // The edited bulletin: document 02, R-1.
+#![tactic(auto)]
+
 ghost use Rattle.std.specs.Prelude.{◌≡◌, true};
 ghost use Rattle.bulletin.specs.Bulletin.{is_length};
 ghost use Rattle.forms.specs.Forms.{SoundBook, RoomFor};

@@ -1,4 +1,6 @@
 // A set of places in a lent array: a run of places put among those that are held. It serves the reading of a block.
+#![tactic(auto)]
+
 ghost use Rattle.std.specs.Prelude.{◌≡◌, true, cond, ◌&&◌, ◌+◌, ◌-◌, ◌≤◌, ◌<◌, ltb, length, get_or, take, drop};
 ghost use Rattle.std.proofs.Math.Seq.{paste};
 ghost use Rattle.codes.specs.Places.{places_end, capacity, place_of, Ascending, upward};
@@ -7,14 +9,14 @@ ghost use Rattle.sets.specs.Held.{Good};
 ghost use Rattle.sets.specs.Runs.{kept, all_below, Grown};
 
 // Places, strictly ascending: the first `count` numbers. The others are zeros.
-#[derive(Drop)]
+#[derive(Clone, Copy)]
 pub struct Places {
     pub held: [u32; 120],
     pub count: usize,
 }
 
 // A run put in: how many places are held now, that they would be more than 120, or that one of them was held already.
-#[derive(Drop)]
+#[derive(Clone, Copy)]
 pub enum Put {
     Total(usize),
     Over,

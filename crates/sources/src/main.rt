@@ -1,4 +1,6 @@
 // Examples of the sources, each on a bulletin that has a segment, and what the core lists for it.
+#![tactic(auto)]
+
 fn main() {
     // Document 002, 4.1: a zone forecast's communications identifier, its segment at line 3.
     printing::list(b"FPUS51 KLWX 240822\nZFPLWX\nMDZ005-242100-\n$$\n", 2002, 4);

@@ -1,4 +1,6 @@
 // The written form of a place code block: document 01, "Written form".
+#![tactic(auto)]
+
 ghost use Rattle.std.specs.Prelude.{◌≡◌, true, cond, [], ◌∷◌, ◌+◌, ◌*◌, ◌%◌, ◌≤◌, ◌<◌, length, get_or, take};
 ghost use Rattle.std.proofs.lemmas.List.Edits.{sets};
 ghost use Rattle.lines.specs.Lines.{end_bytes};
@@ -28,21 +30,21 @@ const WRITTEN_MOST: usize = 66;
 const PURGE_LENGTH: usize = 7;
 
 // The length of the block that was written.
-#[derive(Drop)]
+#[derive(Clone, Copy)]
 pub enum Written {
     Length(usize),
     Refused(Refusal),
 }
 
 // Where the next byte goes, and how many bytes its line has. How lines end is handed on beside it: in the pen it would be copied at every element.
-#[derive(Drop)]
+#[derive(Clone, Copy)]
 struct Pen {
     pos: usize,
     col: usize,
 }
 
 // A run that is still open, `lo` and so many more, after what the pen has written.
-#[derive(Drop)]
+#[derive(Clone, Copy)]
 struct State {
     pen: Pen,
     last: Last,
