@@ -15,21 +15,18 @@ loop-i-init c = search (begun_start, set_true, rules)
 
 pub turn-s-requires : goal.turn-s-requires
 turn-s-requires c = let v = c.loop-i in
-    let p = c.requires in
-    let set = set_true _ p.0 in
-    (v.invariant.fine, ascending_below set.up v.i (omega arith), omega (arith, begun_room _ _ _ set _ _ _ v.invariant p.1.1))
+    let set = set_true _ c.requires.places_value in
+    (v.invariant.fine, ascending_below set.up v.i (omega arith), omega (arith, begun_room _ _ _ set _ _ _ v.invariant c.requires.block_most_in_bounds))
 
 pub loop-i-preserved : goal.loop-i-preserved
 loop-i-preserved c = search (begun_turn, set_true, rules)
 
 pub close-requires : goal.close-requires
 close-requires c = let v = c.loop-i in
-    let p = c.requires in
-    (v.invariant.fine, p.1.0, begun_room _ _ _ (set_true _ p.0) _ _ _ v.invariant p.1.1)
+    (v.invariant.fine, c.requires.stamp_value, begun_room _ _ _ (set_true _ c.requires.places_value) _ _ _ v.invariant c.requires.block_most_in_bounds)
 
 pub shape_of-out : goal.shape_of-out
-shape_of-out c = let p = c.requires in
-    c.close.auto.out ∙ begun_length _ _ _ (set_true _ p.0) _ _ _ c.loop-i.invariant
+shape_of-out c = c.close.auto.out ∙ begun_length _ _ _ (set_true _ c.requires.places_value) _ _ _ c.loop-i.invariant
 
 pub returns : goal.returns
 returns c = search (begun_end, set_true, rules)
