@@ -54,7 +54,7 @@ module _ (end : End) where
   ended_fit at all_nil all_nil = all_nil
   ended_fit at (all_cons {x = l} w ws) (all_cons f fs) =
       let g : length (body_of (in_order l ++ end_bytes end)) ≤ written_most = rw (body_joined end w) f in
-      all_cons g (ended_fit _ ws fs)
+      all_cons g (ended_fit (at + length (in_order l ++ end_bytes end)) ws fs)
 
   pub rendered_fit : ends_line end ≡ true → (at : ℕ) {es : List (List ℕ)} → All Word es → All Short es → All FitLine (lines_from at (rendered end (wrapped es)))
   unfolding pieces

@@ -30,7 +30,7 @@ read_starts stop {s} (last_one {e} {es} x t) (stops {l} {g} a q) =
 read_starts stop (last_one x t) (goes p n m a r) = absurd (reads_nothing r)
 read_starts stop (next_one x t) (stops a q) = absurd (starts_nothing t)
 read_starts stop (next_one {e} {es} x t) (goes {l} {g} p n m a r) =
-    let y = read_starts stop t r in
+    let y = read_starts stop {last = some p} t r in
     (y.0, read_covers stop l g e es p n m (rw x a) ∙ y.1)
 
 -- ---- and where each covers places above those before it, none covers a place again
@@ -46,7 +46,7 @@ once_starts (last_one x t) (rising_on p n m a h k r) u = absurd (rising_nothing 
 once_starts (next_one x t) (rising_end s a) u = absurd (starts_nothing t)
 once_starts (next_one {e} {es} x t) (rising_on {l} p n m a h k r) {before} u =
     let free : covered_before (stretch_of p n m) before ≡ false = above_free (stretch_of p n m) (all_map (λ b g. omega arith) u) in
-    twice_covers l before e es p n m (rw x a) ∙ rw free (once_starts t r (all_cons {x = stretch_of p n m} (omega arith) (all_map (λ b g. omega arith) u)))
+    twice_covers l before e es p n m (rw x a) ∙ rw free (once_starts {last = some p} t r (all_cons {x = stretch_of p n m} (omega arith) (all_map (λ b g. omega arith) u)))
 
 -- ---- the elements of what is written say the places and the purge
 pub written_reads : (ps : List ℕ) (s : Stamp) → Ascending 0 ps → is_time s ≡ true → Reads s ps none [] (block_elements ps s)

@@ -196,7 +196,7 @@ module _ (stop : ℕ) (ps : List ℕ) (u : Stamp) (at : ℕ) where
 
   -- a line of the block
   record Within (a : ℕ) (t : List ℕ) (after : List Element) : Type 0 where
-    no_end_lem : is_end t ≡ false
+    no_end : is_end t ≡ false
     goes : Turn (a + length t) after
 
   in_line : (a : ℕ) (t : List ℕ) (last : Option ℕ) (got : List ℕ) (after : List Element) → read_from stop last got (elements_of_body a t ++ after) ≡ block ps u at → Within a t after
@@ -204,7 +204,7 @@ module _ (stop : ℕ) (ps : List ℕ) (u : Stamp) (at : ℕ) where
   in_line a [] last got after e = let z : wrong_at a ≡ block ps u at = sym (read_wrong stop last got _ after (blank_wrong last)) ∙ e in apart cc
   in_line a (b ∷ t) last got after e =
       record {
-        no_end_lem = by (is_end (b ∷ t)) (λ y. absurd (ended_no (end_is (b ∷ t) y))) (λ n. n);
+        no_end = by (is_end (b ∷ t)) (λ y. absurd (ended_no (end_is (b ∷ t) y))) (λ n. n);
         goes = turns (length (b ∷ t)) (b ∷ t) (omega arith) a last got after e;
       }
     where
