@@ -4,7 +4,7 @@ use native.Mathlib.Omega.{arith}
 use mathlib.Core.Path.{◌≡◌, refl, ap, ◌∙◌, subst}
 use mathlib.Core.Bool.{true, false}
 use mathlib.Core.List.{List, [], ◌∷◌, ◌++◌}
-use mathlib.Core.Option.{Option, none}
+use mathlib.Core.Option.{Option, none, some}
 use borrow.Author.Tests.{lt-leb}
 use Rattle.laws.specs.Lists.{All, all_nil, all_cons}
 use Rattle.laws.proofs.Lists.{all_map}
