@@ -73,7 +73,7 @@ office_same s at k (both {p} {ps} {qs} a) e =
     by (closes (body_of p))
     (λ c. office_end k p qs c ∙ sym (office_end at p ps c) ∙ e)
     λ c. by (is_office (body_of p))
-    (λ o. office_here k p qs c o ∙ said_same _ _ (storm_of (body_of p)) s (sym (office_here at p ps c o) ∙ e))
+    (λ o. office_here k p qs c o ∙ said_same (record { start = at; body = body_of p; next = at + length p; ended = ended_by p }) (record { start = k; body = body_of p; next = k + length p; ended = ended_by p }) (storm_of (body_of p)) s (sym (office_here at p ps c o) ∙ e))
     λ o. office_on k p qs c o ∙ office_same s (at + length p) (k + length p) a (sym (office_on at p ps c o) ∙ e)
 office_same s at k (left {p} {ps} i a) e = office_same s (at + length p) k a (sym (office_inert at p ps i) ∙ e)
 office_same s at k (right {q} {qs = qs} i a) e = office_inert k q qs i ∙ office_same s at (k + length q) a e

@@ -100,7 +100,7 @@ module _ (P : List ℕ → Type 0) where
   edited_lines a b (all_cons s ss) all_nil = drop_lines a b
   edited_lines {ps} a b (all_cons s ss) (all_cons m ms) =
       more_lines (part_lines a b (subst (Between ps) s.start s.first_so.start))
-      (more_lines m (edited_lines a (subst (Between ps) s.block s.last-so.next) ss ms))
+      (more_lines m (edited_lines a (subst (Between ps) s.block s.last_so.next) ss ms))
 
 -- ---- whole lines that ended so
 record WholeEnded (end : End) (p : List ℕ) : Type 0 where

@@ -40,6 +40,8 @@ module _ (text : List ℕ) (issue : ℕ) where
   none_here : (n at : ℕ) (ps : List (List ℕ)) (gs : List Segment) (ends : List End) (cs : List Content) (blocks : List (List ℕ)) → All Fair ps → All (No opens) ps → [] ≡ gs
       → length cs ≡ length gs → NewBlocks issue ends cs blocks → Replaced text issue n at ps gs ends cs blocks
   none_here n at ps [] [] [] [] f a e l no_more = replaced_none text issue n at f a
+  none_here n at ps [] [] [] (_ ∷ _) f a e l ws = elim ws [ ]
+  none_here n at ps [] (_ ∷ _) [] blocks f a e l ws = elim ws [ ]
   none_here n at ps [] ends (c ∷ cs) blocks f a e l ws = impossible (omega arith)
   none_here n at ps (g ∷ gs) ends cs blocks f a e l ws = apart cc
 
