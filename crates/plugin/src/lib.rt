@@ -24,8 +24,7 @@ use reading::Purge;
 
 // ---- the book
 // Makes a book of a bulletin.
-#[unsafe(no_mangle)]
-pub extern "C" fn hollgrimsa_make(book: &mut [u8], text: &[u8], year: u64, month: u64) -> u64
+pub fn hollgrimsa_make(book: &mut [u8], text: &[u8], year: u64, month: u64) -> u64
     ensures is { result ≡ pack nothing (made_answer (make_rule book.old text.now year month)) }
     ensures left { book.new ≡ made_bytes (make_rule book.old text.now year month) book.old }
 {
@@ -33,8 +32,7 @@ pub extern "C" fn hollgrimsa_make(book: &mut [u8], text: &[u8], year: u64, month
 }
 
 // Opens a draft, and answers its number.
-#[unsafe(no_mangle)]
-pub extern "C" fn hollgrimsa_open(book: &mut [u8]) -> u64
+pub fn hollgrimsa_open(book: &mut [u8]) -> u64
     ensures is { result ≡ packed (on_bytes book.old opening).0 }
     ensures left { book.new ≡ (on_bytes book.old opening).1 }
 {
@@ -42,8 +40,7 @@ pub extern "C" fn hollgrimsa_open(book: &mut [u8]) -> u64
 }
 
 // Takes segment s into draft d.
-#[unsafe(no_mangle)]
-pub extern "C" fn hollgrimsa_take(book: &mut [u8], d: u64, s: u64) -> u64
+pub fn hollgrimsa_take(book: &mut [u8], d: u64, s: u64) -> u64
     ensures is { result ≡ packed (on_bytes book.old (on d s taking)).0 }
     ensures left { book.new ≡ (on_bytes book.old (on d s taking)).1 }
 {
@@ -51,32 +48,28 @@ pub extern "C" fn hollgrimsa_take(book: &mut [u8], d: u64, s: u64) -> u64
 }
 
 // The purge minute of draft d's copy of segment s.
-#[unsafe(no_mangle)]
-pub extern "C" fn hollgrimsa_read_purge(book: &[u8], d: u64, s: u64) -> u64
+pub fn hollgrimsa_read_purge(book: &[u8], d: u64, s: u64) -> u64
     ensures { result ≡ packed (on_bytes book.now (on d s (editing read_purge))).0 }
 {
     packing::pack_reply(drafts::read_purge(book, d as usize, s as usize))
 }
 
 // How many places draft d's copy of segment s has.
-#[unsafe(no_mangle)]
-pub extern "C" fn hollgrimsa_read_count(book: &[u8], d: u64, s: u64) -> u64
+pub fn hollgrimsa_read_count(book: &[u8], d: u64, s: u64) -> u64
     ensures { result ≡ packed (on_bytes book.now (on d s (editing read_count))).0 }
 {
     packing::pack_reply(drafts::read_count(book, d as usize, s as usize))
 }
 
 // The place at index i, from 0, of draft d's copy of segment s.
-#[unsafe(no_mangle)]
-pub extern "C" fn hollgrimsa_read_place(book: &[u8], d: u64, s: u64, i: u64) -> u64
+pub fn hollgrimsa_read_place(book: &[u8], d: u64, s: u64, i: u64) -> u64
     ensures { result ≡ packed (on_bytes book.now (on d s (editing (read_place i)))).0 }
 {
     packing::pack_reply(drafts::read_place(book, d as usize, s as usize, i as usize))
 }
 
 // Adds place p to draft d's copy of segment s, and answers whether it was there.
-#[unsafe(no_mangle)]
-pub extern "C" fn hollgrimsa_add(book: &mut [u8], d: u64, s: u64, p: u64) -> u64
+pub fn hollgrimsa_add(book: &mut [u8], d: u64, s: u64, p: u64) -> u64
     ensures is { result ≡ packed (on_bytes book.old (on d s (editing (add p)))).0 }
     ensures left { book.new ≡ (on_bytes book.old (on d s (editing (add p)))).1 }
 {
@@ -84,8 +77,7 @@ pub extern "C" fn hollgrimsa_add(book: &mut [u8], d: u64, s: u64, p: u64) -> u64
 }
 
 // Removes place p from draft d's copy of segment s, and answers whether it was there.
-#[unsafe(no_mangle)]
-pub extern "C" fn hollgrimsa_remove(book: &mut [u8], d: u64, s: u64, p: u64) -> u64
+pub fn hollgrimsa_remove(book: &mut [u8], d: u64, s: u64, p: u64) -> u64
     ensures is { result ≡ packed (on_bytes book.old (on d s (editing (remove p)))).0 }
     ensures left { book.new ≡ (on_bytes book.old (on d s (editing (remove p)))).1 }
 {
@@ -93,8 +85,7 @@ pub extern "C" fn hollgrimsa_remove(book: &mut [u8], d: u64, s: u64, p: u64) -> 
 }
 
 // Gives draft d's copy of segment s the purge minute of DD, HH and MM, and answers it.
-#[unsafe(no_mangle)]
-pub extern "C" fn hollgrimsa_set_purge(
+pub fn hollgrimsa_set_purge(
     book: &mut [u8],
     d: u64,
     s: u64,
@@ -114,8 +105,7 @@ pub extern "C" fn hollgrimsa_set_purge(
 }
 
 // Commits draft d, and answers the segments that changed.
-#[unsafe(no_mangle)]
-pub extern "C" fn hollgrimsa_commit(book: &mut [u8], d: u64) -> u64
+pub fn hollgrimsa_commit(book: &mut [u8], d: u64) -> u64
     ensures is { result ≡ packed (on_bytes book.old (calls.commit d)).0 }
     ensures left { book.new ≡ (on_bytes book.old (calls.commit d)).1 }
 {
@@ -123,8 +113,7 @@ pub extern "C" fn hollgrimsa_commit(book: &mut [u8], d: u64) -> u64
 }
 
 // Drops draft d.
-#[unsafe(no_mangle)]
-pub extern "C" fn hollgrimsa_drop(book: &mut [u8], d: u64) -> u64
+pub fn hollgrimsa_drop(book: &mut [u8], d: u64) -> u64
     ensures is { result ≡ packed (on_bytes book.old (calls.drop d)).0 }
     ensures left { book.new ≡ (on_bytes book.old (calls.drop d)).1 }
 {
@@ -132,8 +121,7 @@ pub extern "C" fn hollgrimsa_drop(book: &mut [u8], d: u64) -> u64
 }
 
 // Undoes the newest step, and answers its segments.
-#[unsafe(no_mangle)]
-pub extern "C" fn hollgrimsa_undo(book: &mut [u8]) -> u64
+pub fn hollgrimsa_undo(book: &mut [u8]) -> u64
     ensures is { result ≡ packed (on_bytes book.old calls.undo).0 }
     ensures left { book.new ≡ (on_bytes book.old calls.undo).1 }
 {
@@ -141,8 +129,7 @@ pub extern "C" fn hollgrimsa_undo(book: &mut [u8]) -> u64
 }
 
 // Writes the block of segment s to the front of out, and answers its length.
-#[unsafe(no_mangle)]
-pub extern "C" fn hollgrimsa_write(book: &[u8], s: u64, out: &mut [u8]) -> u64
+pub fn hollgrimsa_write(book: &[u8], s: u64, out: &mut [u8]) -> u64
     ensures is { result ≡ pack plain (length_of (write_on book.now s (length out.old))) }
     ensures left { out.new ≡ output_of (write_on book.now s (length out.old)) out.old }
 {
@@ -150,8 +137,7 @@ pub extern "C" fn hollgrimsa_write(book: &[u8], s: u64, out: &mut [u8]) -> u64
 }
 
 // Writes the edited bulletin of a text to the front of out, each segment's block replaced by the book's, and answers its length.
-#[unsafe(no_mangle)]
-pub extern "C" fn hollgrimsa_write_edited(text: &[u8], book: &[u8], out: &mut [u8]) -> u64
+pub fn hollgrimsa_write_edited(text: &[u8], book: &[u8], out: &mut [u8]) -> u64
     ensures is { result ≡ pack plain (length_of (edited_rule text.now book.now (length out.old))) }
     ensures left { out.new ≡ output_of (edited_rule text.now book.now (length out.old)) out.old }
 {
@@ -160,8 +146,7 @@ pub extern "C" fn hollgrimsa_write_edited(text: &[u8], book: &[u8], out: &mut [u
 
 // ---- the writer
 // Writes the block of these places and this purge minute to the front of out, and answers its length.
-#[unsafe(no_mangle)]
-pub extern "C" fn hollgrimsa_write_block(out: &mut [u8], places: &[u32], purge: u64) -> u64
+pub fn hollgrimsa_write_block(out: &mut [u8], places: &[u32], purge: u64) -> u64
     ensures is { result ≡ pack plain (length_of (write_rule CrCrLf (length out.old) places.now purge)) }
     ensures left { out.new ≡ output_of (write_rule CrCrLf (length out.old) places.now purge) out.old }
 {
@@ -170,8 +155,7 @@ pub extern "C" fn hollgrimsa_write_block(out: &mut [u8], places: &[u32], purge: 
 
 // ---- the reader: each call reads the text under a year and a month
 // The issue minute.
-#[unsafe(no_mangle)]
-pub extern "C" fn hollgrimsa_issue(text: &[u8], year: u64, month: u64) -> u64
+pub fn hollgrimsa_issue(text: &[u8], year: u64, month: u64) -> u64
     ensures { result ≡ pack issue_in (reported (read_bulletin text.now year month)) }
 {
     let bulletin = bulletin::read(text, year as usize, month as usize);
@@ -183,8 +167,7 @@ pub extern "C" fn hollgrimsa_issue(text: &[u8], year: u64, month: u64) -> u64
 }
 
 // How many segments the bulletin has.
-#[unsafe(no_mangle)]
-pub extern "C" fn hollgrimsa_segments(text: &[u8], year: u64, month: u64) -> u64
+pub fn hollgrimsa_segments(text: &[u8], year: u64, month: u64) -> u64
     ensures { result ≡ pack count_in (reported (read_bulletin text.now year month)) }
 {
     let bulletin = bulletin::read(text, year as usize, month as usize);
@@ -197,8 +180,7 @@ pub extern "C" fn hollgrimsa_segments(text: &[u8], year: u64, month: u64) -> u64
 }
 
 // The heading's BBB, 0 for none.
-#[unsafe(no_mangle)]
-pub extern "C" fn hollgrimsa_bbb(text: &[u8], year: u64, month: u64) -> u64
+pub fn hollgrimsa_bbb(text: &[u8], year: u64, month: u64) -> u64
     ensures { result ≡ pack bbb_in (reported (read_bulletin text.now year month)) }
 {
     let bulletin = bulletin::read(text, year as usize, month as usize);
@@ -214,8 +196,7 @@ pub extern "C" fn hollgrimsa_bbb(text: &[u8], year: u64, month: u64) -> u64
 }
 
 // The place of the identifier.
-#[unsafe(no_mangle)]
-pub extern "C" fn hollgrimsa_identifier(text: &[u8], year: u64, month: u64) -> u64
+pub fn hollgrimsa_identifier(text: &[u8], year: u64, month: u64) -> u64
     ensures { result ≡ pack identifier_in (reported (read_bulletin text.now year month)) }
 {
     let bulletin = bulletin::read(text, year as usize, month as usize);
@@ -227,8 +208,7 @@ pub extern "C" fn hollgrimsa_identifier(text: &[u8], year: u64, month: u64) -> u
 }
 
 // The storm, 0 for none.
-#[unsafe(no_mangle)]
-pub extern "C" fn hollgrimsa_storm(text: &[u8], year: u64, month: u64) -> u64
+pub fn hollgrimsa_storm(text: &[u8], year: u64, month: u64) -> u64
     ensures { result ≡ pack storm_bits_in (reported (read_bulletin text.now year month)) }
 {
     let bulletin = bulletin::read(text, year as usize, month as usize);
@@ -244,8 +224,7 @@ pub extern "C" fn hollgrimsa_storm(text: &[u8], year: u64, month: u64) -> u64
 
 // ---- of segment n, counted from 1
 // Its start and its length in the caller's own text.
-#[unsafe(no_mangle)]
-pub extern "C" fn hollgrimsa_view(text: &[u8], year: u64, month: u64, n: u64) -> u64
+pub fn hollgrimsa_view(text: &[u8], year: u64, month: u64, n: u64) -> u64
     ensures { result ≡ pack view_bits_of (view_of text.now year month n) }
 {
     match bulletin::find_segment(text, year as usize, month as usize, n as usize) {
@@ -255,8 +234,7 @@ pub extern "C" fn hollgrimsa_view(text: &[u8], year: u64, month: u64, n: u64) ->
 }
 
 // The place after its block's last line.
-#[unsafe(no_mangle)]
-pub extern "C" fn hollgrimsa_block_end(text: &[u8], year: u64, month: u64, n: u64) -> u64
+pub fn hollgrimsa_block_end(text: &[u8], year: u64, month: u64, n: u64) -> u64
     ensures { result ≡ pack block_end_of (view_of text.now year month n) }
 {
     match bulletin::find_segment(text, year as usize, month as usize, n as usize) {
@@ -266,8 +244,7 @@ pub extern "C" fn hollgrimsa_block_end(text: &[u8], year: u64, month: u64, n: u6
 }
 
 // Its purge minute.
-#[unsafe(no_mangle)]
-pub extern "C" fn hollgrimsa_purge(text: &[u8], year: u64, month: u64, n: u64) -> u64
+pub fn hollgrimsa_purge(text: &[u8], year: u64, month: u64, n: u64) -> u64
     ensures { result ≡ pack purge_minute_of (view_of text.now year month n) }
 {
     match bulletin::find_segment(text, year as usize, month as usize, n as usize) {
@@ -277,8 +254,7 @@ pub extern "C" fn hollgrimsa_purge(text: &[u8], year: u64, month: u64, n: u64) -
 }
 
 // How many places it has.
-#[unsafe(no_mangle)]
-pub extern "C" fn hollgrimsa_count(text: &[u8], year: u64, month: u64, n: u64) -> u64
+pub fn hollgrimsa_count(text: &[u8], year: u64, month: u64, n: u64) -> u64
     ensures { result ≡ pack count_of (view_of text.now year month n) }
 {
     match bulletin::find_segment(text, year as usize, month as usize, n as usize) {
@@ -331,8 +307,7 @@ fn find_place(text: &[u8], year: usize, month: usize, n: usize, i: usize) -> Rep
 }
 
 // Its place at index i, from 0.
-#[unsafe(no_mangle)]
-pub extern "C" fn hollgrimsa_place(text: &[u8], year: u64, month: u64, n: u64, i: u64) -> u64
+pub fn hollgrimsa_place(text: &[u8], year: u64, month: u64, n: u64, i: u64) -> u64
     ensures { result ≡ packed (place_in text.now year month n i) }
 {
     packing::pack_reply(find_place(text, year as usize, month as usize, n as usize, i as usize))

@@ -1,0 +1,9 @@
+use Rattle.plugin.proofs.Readings.{read_count_lem, read_no}
+use Rattle.std.proofs.Common.{rules}
+use Rattle.plugin.proofs.hollgrimsa_segments.Goals as goal
+
+pub returns-in-Accepted : goal.returns-in-Accepted
+returns-in-Accepted c = search (read_count_lem, rules)
+
+pub returns-in-Refused : goal.returns-in-Refused
+returns-in-Refused c = search (read_no, rules)
