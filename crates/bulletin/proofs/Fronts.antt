@@ -1,5 +1,5 @@
 -- The MND block, its storm, and where the segments start: one law for each way out. Assumes nothing.
-use Prim.Native.Nat.{ℕ, ◌+◌, ◌-◌, ◌≤◌, ◌<◌}
+use Prim.Native.Nat.{ℕ, ◌+◌, ◌-◌, ◌≤◌}
 use native.Mathlib.Omega.{arith}
 use mathlib.Core.Path.{◌≡◌, refl, sym, ap, ◌∙◌}
 use mathlib.Core.List.{List, [], ◌∷◌}
@@ -7,7 +7,7 @@ use mathlib.Core.Bool.{Bool, true, false, cond}
 use mathlib.Core.Option.{Option, none, some}
 use lib.ListN.{length, drop, length-drop}
 use borrow.Author.Tests.{eqb-true}
-use Rattle.laws.proofs.Tests.{by, impossible, apart, and_left}
+use Rattle.laws.proofs.Tests.{by, apart, and_left}
 use Rattle.refusal.specs.Numbers.{wrong_block, no_segment, wrong_storm}
 use Rattle.refusal.specs.Answer.{Answer, ok, no, refusal_for}
 use Rattle.lines.specs.Bytes.{begins, exactly}

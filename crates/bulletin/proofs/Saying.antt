@@ -1,10 +1,9 @@
 -- What a bulletin that is read says of its segments, and that the places that are handed on are theirs. Assumes nothing.
-use Prim.Native.Nat.{ℕ, zero, suc, ◌+◌, ◌*◌, ◌≤◌}
+use Prim.Native.Nat.{ℕ, zero, suc, ◌*◌, ◌≤◌}
 use native.Mathlib.Nat.{zero-add}
 use native.Mathlib.Omega.{arith}
 use mathlib.Core.Path.{◌≡◌, refl, sym, ap, ap₂, ◌∙◌, subst}
 use mathlib.Core.List.{List, [], ◌∷◌, map}
-use mathlib.Core.Bool.{true}
 use mathlib.Core.Option.{Option, none, some}
 use lib.ListN.{length, take, drop, get_elem?, length-map}
 use lib.Seq.{length-take-le}
@@ -13,22 +12,22 @@ use borrow.Author.Tests.{leb-true}
 use Rattle.laws.proofs.Tests.{by, apart}
 use Rattle.laws.proofs.Lists.{all_found}
 use Rattle.laws.specs.Lists.{All, all_nil, all_cons}
-use Rattle.refusal.specs.Answer.{Answer, ok, no, refused, and_then, paper_refusal}
+use Rattle.refusal.specs.Answer.{Answer, ok, no, refused, and_then}
 use Rattle.refusal.specs.Numbers.{too_many_places}
 use Rattle.refusal.specs.declared.Refusal.{Refusal}
 use Rattle.lines.specs.Lines.{Line, lines_of, is_end, opens}
 use Rattle.calendar.specs.Purge.{purge_of}
 use Rattle.codes.specs.Places.{capacity}
 use Rattle.codes.specs.Block.{Content, Read, block, wrong_at, read_block, twice_at, dated, content_in, content_at}
-use Rattle.reading.specs.Placed.{Placed, placed_at}
+use Rattle.reading.specs.Placed.{placed_at}
 use Rattle.reading.proofs.Placing.{placed_parts}
 use Rattle.segments.specs.Search.{from_first}
 use Rattle.segments.specs.Segments.{Segment, runs_to, past_purge, opened, ninth, segments_from, most}
 use Rattle.bulletin.specs.Starts.{first_lines, one_or_more, segments_of}
 use Rattle.bulletin.specs.Bulletin as rule
 use Rattle.bulletin.specs.Bulletin.{read_bulletin}
-use Rattle.segments.specs.Seen.{seen, segments_held, Sized}
-use Rattle.bulletin.specs.Report.{reported, report_of, paper_bulletin}
+use Rattle.segments.specs.Seen.{seen, segments_held}
+use Rattle.bulletin.specs.Report.{reported, report_of}
 use Rattle.segments.specs.KeptAt.{keep_each}
 use Rattle.bulletin.specs.Kept.{places_of, kept_places, KeepsPlaces}
 use Rattle.segments.specs.KeptBy.{places_said, places_at, kept_from, places_from, handed_on}

@@ -1,18 +1,16 @@
 -- The top of a bulletin: lines 1 and 2 and the issue. Assumes nothing.
-use Prim.Native.Nat.{ℕ, ◌-◌, ◌≤◌}
+use Prim.Native.Nat.{ℕ, ◌≤◌}
 use native.Mathlib.Omega.{arith}
 use mathlib.Core.Path.{◌≡◌, sym, ap, ◌∙◌}
-use mathlib.Core.List.{List, []}
+use mathlib.Core.List.{List}
 use mathlib.Core.Bool.{Bool, true, false, cond, ◌&&◌}
-use lib.ListN.{length, drop_of_length-le}
+use lib.ListN.{length}
 use lib.Dec.{leb}
-use lib.Seq.{take-nil}
 use Rattle.laws.proofs.Tests.{by_order}
 use Rattle.refusal.specs.Numbers.{wrong_length, wrong_heading, wrong_identifier, wrong_time}
 use Rattle.refusal.specs.Answer.{ok, no, refusal_for, and_then, paper_verdict}
 use Rattle.refusal.specs.declared.Verdict.{Verdict}
 use Rattle.refusal.specs.declared.Verdict.TheVariants as verdict
-use Rattle.lines.specs.Bytes.{exactly}
 use Rattle.lines.specs.Lines.{lines_of}
 use Rattle.lines.specs.Check.{check_text}
 use Rattle.lines.specs.Spans.{span_at, paper_lined, part}
@@ -24,7 +22,7 @@ use Rattle.calendar.specs.Calendar.{is_issue_month, minute_of}
 use Rattle.calendar.specs.Paper.{paper_moment}
 use Rattle.calendar.specs.declared.Moment.{Moment}
 use Rattle.calendar.specs.declared.Moment.TheVariants as moment
-use Rattle.heading.specs.Heading.{is_heading, heading_of, is_identifier}
+use Rattle.heading.specs.Heading.{heading_of, is_identifier}
 use Rattle.heading.specs.Paper.{paper_headed, paper_heading}
 use Rattle.heading.specs.declared.Heading.{Heading}
 use Rattle.heading.specs.declared.Headed.{Headed}

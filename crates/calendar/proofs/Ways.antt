@@ -10,7 +10,6 @@ use Rattle.laws.proofs.Tests.{by, by_order, impossible, and_left, and_right, sam
 use Rattle.calendar.specs.declared.Stamp.{Stamp}
 use Rattle.calendar.specs.declared.Date.{Date}
 use Rattle.months.specs.declared.Month.{Month}
-use Rattle.months.specs.declared.Found.TheVariants as found
 use Rattle.calendar.specs.declared.Moment.TheVariants as moment
 use Rattle.calendar.specs.declared.Dated.TheVariants as dated
 use Rattle.calendar.specs.Paper.{paper_moment, paper_dated}

@@ -16,7 +16,7 @@ use Rattle.refusal.specs.Answer.{and_then, refusal_for, paper_verdict}
 use Rattle.refusal.specs.declared.Verdict.{Verdict}
 use Rattle.refusal.specs.declared.Verdict.TheVariants.{Accepted, Refused}
 use Rattle.blocks.specs.Block.{book_length}
-use Rattle.steps.specs.Book.{Copy, Draft, closed, at, or_closed, draft_at}
+use Rattle.steps.specs.Book.{Draft, closed, at, or_closed, draft_at}
 use Rattle.layout.specs.Layout.{copies_of, copies_at, draft_of, book_of}
 use Rattle.layout.specs.Tests.{is_sound}
 use Rattle.layout.proofs.Parts.{sound_parts, draft_cases}

@@ -12,7 +12,7 @@ use Rattle.laws.proofs.Tests.{by_order, impossible}
 use Rattle.blocks.specs.Block.{block_count}
 use Rattle.steps.specs.Book.{Copy, Book}
 use Rattle.steps.specs.Calls.{newest}
-use Rattle.layout.specs.Layout.{part_of, held_in, copies_at, step_of, book_of}
+use Rattle.layout.specs.Layout.{part_of, held_in, step_of, book_of}
 use Rattle.layout.specs.Tests.{is_sound}
 use Rattle.layout.proofs.Says.{StepSays, single, pair}
 use Rattle.layout.proofs.Parts.{Parts, sound_parts, step_cases}

@@ -11,7 +11,7 @@ use Rattle.laws.proofs.Lists.{all_head, all_tail}
 use Rattle.laws.proofs.Tests.{or_no}
 use Rattle.steps.specs.Book.{Copy, Draft, closed, working}
 use Rattle.steps.specs.Calls.{has}
-use Rattle.layout.specs.Layout.{segment_of, bit, draft_bytes, step_bytes, segment, copies_of}
+use Rattle.layout.specs.Layout.{segment_of, bit, draft_bytes, step_bytes, copies_of}
 use Rattle.layout.specs.Sound.{FineCopy, Distinct, first_once, UpCopies, one_up, FineDraft, working_fine, FineStep}
 use Rattle.layout.specs.Tests.{is_draft, is_step}
 use Rattle.layout.proofs.ForthSaid.{number_not}

@@ -5,7 +5,6 @@ use native.Mathlib.Omega.{arith}
 use mathlib.Core.Path.{◌≡◌, refl, sym, ap, ◌∙◌}
 use mathlib.Core.List.{List, [], ◌∷◌}
 use mathlib.Core.Bool.{Bool, true, false, cond, ◌&&◌}
-use mathlib.Core.Option.{none, some}
 use mir.Syntax.{w64}
 use mir.Val.{Fits}
 use lib.ListN.{length, get_or, drop, length-drop, get_or-eq_default}

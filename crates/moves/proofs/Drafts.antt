@@ -4,7 +4,7 @@ use mathlib.Core.Logic.{◌≢◌}
 use mathlib.Core.Bool.{Bool, false}
 use mathlib.Core.List.{List, [], ◌∷◌, ◌++◌}
 use mathlib.Core.Option.{none, some}
-use Prim.Native.Nat.{ℕ, zero, suc, ◌+◌, ◌*◌, ◌-◌, ◌≤◌, ◌<◌}
+use Prim.Native.Nat.{ℕ, zero, suc, ◌+◌, ◌*◌, ◌≤◌, ◌<◌}
 use native.Mathlib.Omega.{arith}
 use lib.ListN.{length, get_or, get_elem?, set, length-set}
 use lib.Seq.{set-set, get_or-set_same}
@@ -15,7 +15,7 @@ use Rattle.blocks.specs.Block.{block_of, put_block}
 use Rattle.blocks.specs.Content.{holding}
 use Rattle.steps.specs.Book.{Copy, Draft, closed, working, Book, at, put, draft_at}
 use Rattle.steps.specs.Calls.{with_drafts}
-use Rattle.layout.specs.Layout.{segment, part_of, draft_bytes, copies_of, held_of, held_in, index_bytes}
+use Rattle.layout.specs.Layout.{part_of, draft_bytes, copies_of, held_of, held_in, index_bytes}
 use Rattle.layout.specs.Lies.{Lies}
 use Rattle.layout.proofs.Stands.{part_copy}
 use Rattle.layout.proofs.ForthIndex.{or_closed_lem, index_length}

@@ -1,9 +1,7 @@
 -- The segments that are handed on exist. Assumes nothing.
 use mathlib.Core.Path.{◌≡◌, subst}
-use mathlib.Core.List.{List, []}
 use Prim.Native.Nat.{ℕ, ◌≤◌}
 use Rattle.laws.proofs.Lists.{all_head, all_tail}
-use Rattle.laws.specs.Lists.{All}
 use Rattle.layout.specs.declared.Changed.{Changed}
 use Rattle.layout.specs.declared.Changed.TheVariants.{One, Two}
 use Rattle.moves.specs.Named.{Among}

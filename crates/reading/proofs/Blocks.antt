@@ -22,7 +22,7 @@ use Rattle.codes.specs.declared.Cursor.{Cursor}
 use Rattle.codes.specs.declared.Step.{Step}
 use Rattle.codes.proofs.Bounds.{Below}
 use Rattle.codes.proofs.Steps.{read_then, read_step, Ahead, step_ahead}
-use Rattle.codes.proofs.Twice.{twice_then, twice_step, Some, Both, gathered, before_gathered, gathered_before}
+use Rattle.codes.proofs.Twice.{twice_then, twice_step, Some, gathered, before_gathered, gathered_before}
 use Rattle.sets.specs.Held.{vacant, places_for, places_in, Good}
 use Rattle.sets.specs.Runs.{capped, kept, held_by, held_after, is_over, is_twice, holds_in, Grown}
 use Rattle.sets.specs.declared.Places.{Places}

@@ -1,6 +1,5 @@
 -- A segment's content: 6 comes before 25, 25 before 5, and 5 before 11. Assumes nothing.
-use Prim.Native.Nat.{ℕ, ◌≤◌, ◌<◌}
-use native.Mathlib.Omega.{arith}
+use Prim.Native.Nat.{ℕ}
 use mathlib.Core.Path.{◌≡◌, refl, sym, ap, ap₂, ◌∙◌}
 use mathlib.Core.List.{List, []}
 use mathlib.Core.Bool.{true, false}

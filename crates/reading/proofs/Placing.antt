@@ -8,14 +8,11 @@ use Rattle.laws.proofs.Tests.{apart}
 use mathlib.Core.Option.{Option}
 use Rattle.refusal.specs.Answer.{Answer, ok, no, and_then}
 use Rattle.refusal.specs.declared.Refusal.{Refusal}
-use Rattle.calendar.specs.Purge.{purge_of}
 use Rattle.codes.specs.Block as codes
 use Rattle.codes.specs.Block.{Read, block, wrong_at, read_block, twice_at, content_in, content_at}
 use Rattle.sets.specs.Held.{vacant, places_for, places_in}
-use Rattle.sets.specs.declared.Places.{Places}
 use Rattle.reading.specs.Placed.{purge_place, Placed, placed_at}
-use Rattle.reading.specs.Held.{content_for, content_by, paper_content}
-use Rattle.reading.specs.declared.Purge.{Purge}
+use Rattle.reading.specs.Held.{content_for, paper_content}
 use Rattle.reading.specs.declared.Purge.TheVariants.{At, Refused}
 use Rattle.reading.specs.declared.Content.{Content}
 

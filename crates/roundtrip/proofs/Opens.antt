@@ -6,7 +6,7 @@ use mathlib.Core.List.{List, [], ◌∷◌, ◌++◌, append_assoc}
 use mathlib.Core.Option.{none}
 use lib.ListN.{length}
 use Rattle.laws.specs.Lists.{All, all_nil, all_cons}
-use Rattle.lines.specs.Lines.{end_bytes, opens, Line, lines_at, lines_from, ends_line}
+use Rattle.lines.specs.Lines.{opens, Line, lines_at, lines_from, ends_line}
 use Rattle.lines.specs.declared.End.{End}
 use Rattle.calendar.specs.declared.Stamp.{Stamp}
 use Rattle.codes.specs.Written.{Run, elements_of, purge_element, Wrapped, on_line, written_most, wrapped, wrap_from, in_order, rendered}

@@ -7,10 +7,10 @@ use mathlib.Core.Path.{◌≡◌, refl, sym, ap, ◌∙◌}
 use mathlib.Core.List.{List}
 use mathlib.Core.Bool.{Bool, true, false, ◌&&◌, ◌||◌, and_assoc}
 use lib.ListN.{length, get_or}
-use lib.Dec.{eqb, ltb}
+use lib.Dec.{eqb}
 use borrow.Author.Tests.{eqb-true, lt-ltb, le-ltb, eq-eqb, ne_eqb}
-use Rattle.laws.proofs.Tests.{by, apart, impossible, and_left, and_right}
-use Rattle.lines.specs.Bytes.{capital, digit, one_of}
+use Rattle.laws.proofs.Tests.{by, apart, and_left, and_right}
+use Rattle.lines.specs.Bytes.{capital, digit}
 use Rattle.lines.specs.Lines.{opens}
 use Rattle.lines.proofs.Tests.{opens_by}
 use Rattle.lines.specs.Spans.{span_at, paper_lined, part}

@@ -10,7 +10,7 @@ use Rattle.lines.specs.Spans.{span_at, paper_lined, part}
 use Rattle.lines.specs.declared.Span.{Span}
 use Rattle.lines.specs.declared.Lined.{Lined}
 use Rattle.lines.specs.declared.Lined.TheVariants as lined
-use Rattle.lines.proofs.Ends.{end_of, next_of, next_within, next_more, next_last, part_body, line_at, lines_step, lines_last, span_here, span_none, found_none, found_here, found_start, found_again, found_end, found_next, span_inside, span_next}
+use Rattle.lines.proofs.Ends.{next_of, next_within, next_more, next_last, part_body, line_at, lines_step, lines_last, span_here, span_none, found_none, found_here, found_start, found_again, found_end, found_next, span_inside, span_next}
 use Rattle.segments.specs.Search.{from_first, after_first, closes}
 use Rattle.segments.specs.Searching.{test_of, lines_on, found_lines, LineFrom, Inside, next_in}
 use Rattle.heading.specs.Storm.{is_office}

@@ -1,5 +1,5 @@
 -- Serves the code: what its search over lines and the answer of it mean.
-use Rattle.std.specs.Prelude.{ℕ, zero, suc, ◌≤◌, ◌≡◌, List, [], Bool, true, cond, ◌&&◌, ◌||◌, length, drop, get_or, eqb, ltb}
+use Rattle.std.specs.Prelude.{ℕ, zero, suc, ◌≤◌, ◌≡◌, List, [], Bool, true, cond, ◌&&◌, ◌||◌, drop, get_or, eqb, ltb}
 use Rattle.std.proofs.Math.Option.{Option, none, some}
 use Rattle.lines.specs.Bytes.{capital, digit}
 use Rattle.lines.specs.Lines as lines

@@ -1,4 +1,3 @@
-use Prim.Native.Nat.{◌-◌}
 use Rattle.blocks.proofs.Scans.{rising_start, rising_on, rising_done}
 use Rattle.std.proofs.Common.{rules}
 use Rattle.blocks.proofs.ascending.Goals as goal

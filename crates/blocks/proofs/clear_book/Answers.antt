@@ -1,4 +1,3 @@
-use Prim.Native.Nat.{◌-◌}
 use Rattle.blocks.proofs.Emptied.{emptied_start, emptied_on, emptied_done}
 use Rattle.std.proofs.Common.{rules}
 use Rattle.blocks.proofs.clear_book.Goals as goal

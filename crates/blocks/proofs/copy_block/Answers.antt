@@ -1,4 +1,3 @@
-use Prim.Native.Nat.{◌-◌}
 use Rattle.blocks.proofs.Copies.{copying_start, copying_on, copying_done}
 use Rattle.std.proofs.Common.{rules}
 use Rattle.blocks.proofs.copy_block.Goals as goal

@@ -1,4 +1,3 @@
-use Prim.Native.Nat.{◌-◌}
 use Rattle.blocks.proofs.Stored.{putting_start, putting_on, putting_done}
 use Rattle.std.proofs.Common.{rules}
 use Rattle.blocks.proofs.put_numbers.Goals as goal

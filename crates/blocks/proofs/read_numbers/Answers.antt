@@ -1,4 +1,3 @@
-use Prim.Native.Nat.{◌-◌}
 use Rattle.blocks.proofs.Stored.{reading_start, reading_on, reading_done}
 use Rattle.std.proofs.Common.{rules}
 use Rattle.blocks.proofs.read_numbers.Goals as goal

@@ -1,4 +1,3 @@
-use Prim.Native.Nat.{◌-◌}
 use Rattle.blocks.proofs.Scans.{alike_start, alike_no, alike_on, alike_done}
 use Rattle.std.proofs.Common.{rules}
 use Rattle.blocks.proofs.same_bytes.Goals as goal

@@ -1,4 +1,3 @@
-use Prim.Native.Nat.{◌-◌}
 use Rattle.checks.proofs.Columns.{adding_start, adding_on, adding_done}
 use Rattle.std.proofs.Common.{rules}
 use Rattle.checks.proofs.add_columns.Goals as goal

@@ -1,4 +1,3 @@
-use Prim.Native.Nat.{◌-◌}
 use Rattle.checks.proofs.Zeros.{zeros_start, zeros_on, zeros_done}
 use Rattle.std.proofs.Common.{rules}
 use Rattle.checks.proofs.all_zero.Goals as goal

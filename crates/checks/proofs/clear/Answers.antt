@@ -1,4 +1,3 @@
-use Prim.Native.Nat.{◌-◌}
 use Rattle.checks.proofs.Zeros.{cleared_start, cleared_on, cleared_done}
 use Rattle.std.proofs.Common.{rules}
 use Rattle.checks.proofs.clear.Goals as goal

@@ -1,4 +1,3 @@
-use Prim.Native.Nat.{◌-◌}
 use Rattle.checks.proofs.Unused.{blank_start, blank_on, blank_done}
 use Rattle.std.proofs.Common.{rules}
 use Rattle.checks.proofs.is_blank.Goals as goal

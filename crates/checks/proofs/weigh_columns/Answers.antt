@@ -1,5 +1,4 @@
 use native.Mathlib.Omega.{arith}
-use Prim.Native.Nat.{◌-◌}
 use Rattle.checks.proofs.Columns.{weighing_start, weighing_on, weighing_done, weighing_small, column_small}
 use Rattle.std.proofs.Common.{rules}
 use Rattle.checks.proofs.weigh_columns.Goals as goal

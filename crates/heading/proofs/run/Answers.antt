@@ -1,5 +1,4 @@
 use Rattle.heading.proofs.Forms.{ran_start, ran_on, ran_no, ran_done}
-use Prim.Native.Nat.{◌-◌}
 use Rattle.std.proofs.Common.{rules}
 use Rattle.heading.proofs.run.Goals as goal
 

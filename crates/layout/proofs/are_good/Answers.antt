@@ -1,4 +1,3 @@
-use Prim.Native.Nat.{◌-◌}
 use native.Mathlib.Omega.{arith}
 use Rattle.layout.proofs.Issues.{window_there, window_told}
 use Rattle.layout.proofs.Tests.{scan_start, scan_end, scan_no, scan_on}

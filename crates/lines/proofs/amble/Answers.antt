@@ -1,4 +1,3 @@
-use Prim.Native.Nat.{◌-◌}
 use Rattle.lines.proofs.Scans.{passed_start, passed_one, near_byte, near_less, ambled_stop, ambled_all}
 use Rattle.std.proofs.Common.{rules}
 use Rattle.lines.proofs.amble.Goals as goal

@@ -1,4 +1,3 @@
-use Prim.Native.Nat.{◌-◌}
 use Rattle.lines.proofs.Strings.{same_start, same_short, same_on, same_no, same_done}
 use Rattle.std.proofs.Common.{rules}
 use Rattle.lines.proofs.begins_with.Goals as goal

@@ -1,5 +1,4 @@
 use native.Mathlib.Omega.{arith}
-use Prim.Native.Nat.{◌-◌}
 use Rattle.lines.proofs.Scans.{end_fits}
 use Rattle.lines.proofs.Checks.{checks_start, checks_long, checks_wrong, checks_line, checks_less, checks_fine}
 use Rattle.std.proofs.Common.{rules}

@@ -1,4 +1,3 @@
-use Prim.Native.Nat.{◌-◌}
 use Rattle.lines.proofs.Scans.{end_fits, past_last, inside_start, inside_next, inside_here, inside_last}
 use Rattle.std.proofs.Common.{rules}
 use Rattle.lines.proofs.find_line.Goals as goal

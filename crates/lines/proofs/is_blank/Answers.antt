@@ -1,4 +1,3 @@
-use Prim.Native.Nat.{◌-◌}
 use Rattle.lines.proofs.Tests.{blanks_start, blanks_on, blanks_no, blanks_done}
 use Rattle.std.proofs.Common.{rules}
 use Rattle.lines.proofs.is_blank.Goals as goal

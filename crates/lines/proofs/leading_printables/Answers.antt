@@ -1,4 +1,3 @@
-use Prim.Native.Nat.{◌-◌}
 use Rattle.lines.proofs.Scans.{looked_start, looked_on, looked_done}
 use Rattle.std.proofs.Common.{rules}
 use Rattle.lines.proofs.leading_printables.Goals as goal

@@ -1,4 +1,3 @@
-use Prim.Native.Nat.{◌-◌}
 use Rattle.lines.proofs.Scans.{ambled_short, ambled_within, ambled_on, passed_one, passed_stop, passed_end}
 use Rattle.std.proofs.Common.{rules}
 use Rattle.lines.proofs.printable_end.Goals as goal

@@ -1,4 +1,3 @@
-use Prim.Native.Nat.{◌-◌}
 use Rattle.lines.proofs.Scans.{passed_start, passed_to, passed_all}
 use Rattle.std.proofs.Common.{rules}
 use Rattle.lines.proofs.stride.Goals as goal

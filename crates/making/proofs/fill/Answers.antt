@@ -1,4 +1,3 @@
-use Prim.Native.Nat.{◌-◌}
 use Rattle.making.proofs.Filling.{filling_start, filling_fits, filling_low, filling_end, filling_few, filling_on, filling_done, filling_long}
 use Rattle.std.proofs.Common.{rules}
 use Rattle.making.proofs.fill.Goals as goal

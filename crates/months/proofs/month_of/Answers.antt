@@ -1,4 +1,3 @@
-use Prim.Native.Nat.{◌-◌}
 use Rattle.months.proofs.Ways.{turns_first, turns_more, turns_on, turns_end, month_gone}
 use Rattle.std.proofs.Common.{rules}
 use Rattle.months.proofs.month_of.Goals as goal

@@ -1,4 +1,3 @@
-use Prim.Native.Nat.{◌-◌}
 use Rattle.months.proofs.Ways.{passed_none, passed_on, passed_all}
 use Rattle.std.proofs.Common.{rules}
 use Rattle.months.proofs.month_start.Goals as goal

@@ -1,4 +1,3 @@
-use Prim.Native.Nat.{◌-◌}
 use Rattle.reading.proofs.Blocks.{reads_start, reads_low, reads_less, reads_known, reads_total, reads_over, reads_twice, reads_purge, reads_wrong, bare_good, over_good}
 use Rattle.std.proofs.Common.{rules}
 use Rattle.reading.proofs.read_block.Goals as goal

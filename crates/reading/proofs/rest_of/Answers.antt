@@ -1,4 +1,3 @@
-use Prim.Native.Nat.{◌-◌}
 use Rattle.reading.proofs.Rests.{resting_start, resting_less, resting_on, resting_purge, resting_wrong}
 use Rattle.std.proofs.Common.{rules}
 use Rattle.reading.proofs.rest_of.Goals as goal

@@ -1,4 +1,3 @@
-use Prim.Native.Nat.{◌-◌}
 use Rattle.repeats.proofs.Marking.{claiming_start, claiming_word, claiming_hit, claiming_on, claiming_done}
 use Rattle.std.proofs.Common.{rules}
 use Rattle.repeats.proofs.claim.Goals as goal

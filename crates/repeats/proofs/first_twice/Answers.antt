@@ -1,4 +1,3 @@
-use Prim.Native.Nat.{◌-◌}
 use Rattle.repeats.proofs.Rising.{rising_or_falling_once}
 use Rattle.repeats.proofs.Passes.{asked_start, asked_on, asked_done}
 use Rattle.std.proofs.Common.{rules}

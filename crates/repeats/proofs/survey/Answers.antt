@@ -1,4 +1,3 @@
-use Prim.Native.Nat.{◌-◌}
 use Rattle.repeats.proofs.Rising.{outlined_start, rise_purge, fall_purge, quiet_purge, rise_wrong, fall_wrong, quiet_wrong}
 use Rattle.repeats.proofs.Rising.{outlined_less, outlined_base, outlined_from, outlined_to, outlined_end, outlined_on}
 use Rattle.std.proofs.Common.{rules}

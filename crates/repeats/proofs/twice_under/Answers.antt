@@ -1,4 +1,3 @@
-use Prim.Native.Nat.{◌-◌}
 use Rattle.repeats.proofs.Passing.{passing_start, passing_long, passing_low, passing_from}
 use Rattle.repeats.proofs.Passing.{passing_less, passing_hit, passing_on, passing_purge, passing_wrong}
 use Rattle.std.proofs.Common.{rules}

@@ -1,4 +1,3 @@
-use Prim.Native.Nat.{◌-◌}
 use Rattle.segments.proofs.Seeking.{seeks_start, seeks_none, seeks_here, seeks_in, seeks_on, seeks_less}
 use Rattle.std.proofs.Common.{rules}
 use Rattle.segments.proofs.first.Goals as goal

@@ -1,4 +1,3 @@
-use Prim.Native.Nat.{◌-◌}
 use Rattle.segments.proofs.Seeking.{seeks_start, seeks_none}
 use Rattle.segments.proofs.Opening.{fitting_start, fitting_on, opening_less, opening_on, opening_here, opening_in}
 use Rattle.std.proofs.Common.{rules}

@@ -1,4 +1,3 @@
-use Prim.Native.Nat.{◌-◌}
 use Rattle.segments.proofs.Keeping.{handing_start, handing_at, handing_fits, handing_end, handing_few, handing_on, handing_done, handing_length}
 use Rattle.std.proofs.Common.{rules}
 use Rattle.segments.proofs.hand_on.Goals as goal

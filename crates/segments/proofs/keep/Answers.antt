@@ -1,4 +1,3 @@
-use Prim.Native.Nat.{◌-◌}
 use Rattle.laws.proofs.Stores.{copied_start, copied_on}
 use Rattle.segments.proofs.Keeping.{keep_none, keep_all}
 use Rattle.std.proofs.Common.{rules}

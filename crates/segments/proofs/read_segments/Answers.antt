@@ -1,4 +1,3 @@
-use Prim.Native.Nat.{◌-◌}
 use Rattle.segments.proofs.Stepping.{listing_start, listing_room, listing_less, listing_on, listing_end, listing_refused, listing_segments, listing_sized, listing_size, kept_end, kept_no}
 use Rattle.std.proofs.Common.{rules}
 use Rattle.segments.proofs.read_segments.Goals as goal

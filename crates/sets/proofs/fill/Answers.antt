@@ -1,4 +1,3 @@
-use Prim.Native.Nat.{◌-◌}
 use Rattle.sets.proofs.Sets.{filling_start, filling_on, filling_done}
 use Rattle.std.proofs.Common.{rules}
 use Rattle.sets.proofs.fill.Goals as goal

@@ -1,4 +1,3 @@
-use Prim.Native.Nat.{◌-◌}
 use Rattle.sets.proofs.Searches.{counted_start, counted_few, counted_on, counted_done, counted_most, counted_room, first_zero}
 use Rattle.std.proofs.Common.{rules}
 use Rattle.sets.proofs.first_from.Goals as goal

@@ -1,5 +1,4 @@
 use mathlib.Core.Path.{◌∙◌}
-use Prim.Native.Nat.{◌-◌}
 use native.Mathlib.Omega.{arith}
 use Rattle.codes.proofs.Sets.{set_true, ascending_below}
 use Rattle.writing.proofs.Composing.{begun_start, begun_turn, begun_length, begun_room, begun_end}

@@ -1,4 +1,3 @@
-use Prim.Native.Nat.{◌-◌}
 use Rattle.codes.proofs.Climbs.{climbs_start, climbs_on}
 use Rattle.writing.proofs.Sets.{set_short, set_long, set_done}
 use Rattle.std.proofs.Common.{rules}

@@ -1,4 +1,3 @@
-use Prim.Native.Nat.{◌-◌}
 use Rattle.laws.proofs.Stores.{copied_start, copied_on, copied_done}
 use Rattle.std.proofs.Common.{rules}
 use Rattle.writing.proofs.put.Goals as goal
