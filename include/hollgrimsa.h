@@ -1,6 +1,6 @@
 /* hollgrimsa.h: the proved core of an editor for weather bulletins, from C and C++.
  *
- * Link with target/staticlib/libplugin.a, which `rt staticlib plugin` builds.
+ * Link with target/staticlib/libplugin.a, which bindings/build builds.
  *
  * A lent text, book or output is a pointer and a length in bytes; the pointer is not null, even where the length is 0. No
  * call keeps a pointer, allocates, or stops the program: whatever is handed in, it is answered. Two lent buffers of one

@@ -1,7 +1,7 @@
 /* Reads a bulletin, edits its first segment in a draft, commits, writes the edited bulletin, undoes, and prints what it did.
  *
  * From the repository's root:
- *   rt staticlib plugin
+ *   bindings/build
  *   cc -std=c99 -Wall -Wextra -pedantic -Iinclude bindings/c/example.c target/staticlib/libplugin.a -o target/example
  *   target/example examples/advisory.txt
  *

@@ -1,4 +1,4 @@
-//! Links the static library `plugin`, which `rt staticlib plugin` builds in
+//! Links the archive of the core, libplugin.a, which bindings/build builds in
 //! the repository's root, or the one in the folder that HOLLGRIMSA_LIB names.
 
 use std::env;
@@ -16,7 +16,7 @@ fn main() {
     println!("cargo:rerun-if-changed={}", library.display());
     if !library.is_file() {
         eprintln!("{LIBRARY} is not in {}.", folder.display());
-        eprintln!("Run `rt staticlib plugin` in the repository's root, which proves the core and builds it,");
+        eprintln!("Run bindings/build in the repository's root, which proves the core and builds it,");
         eprintln!("or set HOLLGRIMSA_LIB to the folder that has it.");
         exit(1);
     }
