@@ -40,7 +40,7 @@ use Rattle.blocks.specs.declared.Held.{Held}
 use Rattle.layout.specs.Layout.{book_of}
 use Rattle.layout.proofs.Parts.{sound_parts}
 use Rattle.layout.proofs.Said.{segment_of_lem, segments_length}
-use Rattle.segments.specs.Seen.{segments_held, Sized}
+use Rattle.segments.specs.Seen.{Sized}
 use Rattle.segments.specs.declared.Segment.{Segment}
 use Rattle.segments.specs.declared.Segments.{Segments}
 use Rattle.making.proofs.Writing.{segment_block_lem, rule_block, write_few}

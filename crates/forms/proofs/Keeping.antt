@@ -1,9 +1,9 @@
 -- What of a text is kept, and the text with new blocks: their lengths, and the two ways of naming the segments. Assumes nothing.
-use Prim.Native.Nat.{ℕ, zero, suc, ◌+◌, ◌-◌, ◌*◌, ◌≤◌, ◌<◌}
+use Prim.Native.Nat.{ℕ, ◌+◌, ◌-◌, ◌*◌, ◌≤◌, ◌<◌}
 use native.Mathlib.Nat.{zero-add}
 use native.Mathlib.Numerals.{add-one}
 use native.Mathlib.Omega.{arith}
-use mathlib.Core.Path.{◌≡◌, refl, sym, ap, ap₂, ◌∙◌, subst}
+use mathlib.Core.Path.{◌≡◌, refl, sym, ap, ap₂, ◌∙◌}
 use mathlib.Core.List.{List, [], ◌∷◌, ◌++◌, map, append_assoc}
 use lib.ListN.{length, take, drop, get_or, length-append, length-drop, drop_of_length-le}
 use lib.Seq.{take_all, drop-cons, get_or-take, length-take-le, drop-append_seam, take-append_seam}
@@ -15,7 +15,7 @@ use Rattle.lines.specs.Spans.{part}
 use Rattle.codes.specs.Written.{in_order}
 use Rattle.lines.specs.declared.End.{End}
 use Rattle.segments.specs.Segments as rule
-use Rattle.segments.specs.Seen.{seen, segments_held, Sized}
+use Rattle.segments.specs.Seen.{seen, Sized}
 use Rattle.segments.specs.declared.Segment.{Segment}
 use Rattle.segments.specs.declared.Segments.{Segments}
 use Rattle.forms.specs.Edited.{edited_from, ends_in}

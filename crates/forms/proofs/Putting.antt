@@ -1,9 +1,9 @@
 -- The loop that copies the text with its new blocks. Assumes nothing.
-use Prim.Native.Nat.{ℕ, suc, ◌+◌, ◌-◌, ◌*◌, ◌≤◌, ◌<◌}
-use native.Mathlib.Nat.{zero-add, add-zero}
+use Prim.Native.Nat.{ℕ, ◌+◌, ◌-◌, ◌≤◌, ◌<◌}
+use native.Mathlib.Nat.{zero-add}
 use native.Mathlib.Omega.{arith}
-use mathlib.Core.Path.{◌≡◌, refl, sym, ap, ap₂, ◌∙◌, subst}
-use mathlib.Core.List.{List, [], ◌∷◌, ◌++◌, append_assoc}
+use mathlib.Core.Path.{◌≡◌, refl, sym, ap, ap₂, ◌∙◌}
+use mathlib.Core.List.{List, [], ◌++◌, append_assoc}
 use lib.ListN.{length, take, drop, get_or, length-append}
 use lib.Seq.{sets, drop-drop, length-sets, take-length}
 use mir.Syntax.{w64}
@@ -13,9 +13,7 @@ use Rattle.refusal.specs.Answer.{ok}
 use Rattle.lines.specs.Spans.{part}
 use Rattle.writing.specs.Pen.{Stored}
 use Rattle.writing.specs.Write.{output_of}
-use Rattle.segments.specs.Seen.{Sized}
 use Rattle.segments.specs.declared.Segment.{Segment}
-use Rattle.segments.specs.declared.Segments.{Segments}
 use Rattle.forms.specs.Forms.{cut_into, sum_of, with_forms, filled_in, Cuttable}
 use Rattle.forms.proofs.Keeping.{part_rest, next_held, none_held}
 

@@ -17,7 +17,6 @@ use Rattle.lines.specs.Bytes.{Kind, between, capital, digit, is, word, begins, e
 use Rattle.lines.specs.Lines.{Line, blank}
 use Rattle.lines.proofs.Strings.{exactly_is}
 use Rattle.calendar.specs.Calendar.{is_time}
-use Rattle.calendar.specs.declared.Stamp.{Stamp}
 use Rattle.codes.specs.Places.{two_of}
 use Rattle.codes.specs.Elements.{stamp_of}
 use Rattle.heading.specs.Heading.{Heading, times, heading_form, amendment, amended_form, is_heading, bbb_after, heading_of, is_identifier}
@@ -30,7 +29,7 @@ use Rattle.segments.specs.Search.{closes}
 use Rattle.bulletin.specs.Mnd.{storm_said, office_storm, storm_in}
 use Rattle.bulletin.specs.Bulletin.{line1, line2, headed}
 use Rattle.packing.specs.Packing.{year_end}
-use Rattle.packing.proofs.Kept.{Byte, Marked, unmarked, marked, Known, Small, small_none, small_some}
+use Rattle.packing.proofs.Kept.{Marked, unmarked, marked, Known, Small, small_none, small_some}
 use Rattle.plugin.proofs.Within.{Within, later_within, from_within, up_within, Low, low_ok, low_refused}
 
 -- ---- bytes of a form

@@ -1,9 +1,9 @@
 -- The ways out of writing the edited bulletin. Assumes nothing.
-use Prim.Native.Nat.{ℕ, suc, ◌+◌, ◌≤◌, ◌<◌}
+use Prim.Native.Nat.{ℕ, ◌+◌, ◌≤◌, ◌<◌}
 use native.Mathlib.Omega.{arith}
-use mathlib.Core.Path.{◌≡◌, refl, sym, ap, ap₂, ◌∙◌, subst}
+use mathlib.Core.Path.{◌≡◌, refl, sym, ap, ap₂, ◌∙◌}
 use mathlib.Core.Bool.{Bool, true, false, ◌&&◌}
-use mathlib.Core.List.{List, [], ◌∷◌, ◌++◌, map}
+use mathlib.Core.List.{List, ◌++◌}
 use mathlib.Core.Option.{Option, none, some}
 use lib.ListN.{length, take, drop, get_or, length-map, take-append-drop}
 use lib.Seq.{length-take-le}
@@ -11,7 +11,7 @@ use lib.Dec.{eqb, leb}
 use mir.Syntax.{w64}
 use mir.Val.{Fits}
 use borrow.Author.Tests.{le-leb, lt-leb, eq-eqb, ne_eqb, eqb-true, leb-true}
-use Rattle.laws.proofs.Tests.{by, and_left, and_right}
+use Rattle.laws.proofs.Tests.{and_right}
 use Rattle.refusal.specs.Numbers.{wrong_length, wrong_time, not_sound, output_short, not_belonging}
 use Rattle.refusal.specs.Answer.{Answer, ok, no, refused, refusal_for, must, and_then}
 use Rattle.refusal.specs.declared.Refusal.{Refusal}
@@ -20,8 +20,7 @@ use Rattle.calendar.specs.Paper.{paper_dated}
 use Rattle.calendar.specs.declared.Date.{Date}
 use Rattle.calendar.specs.declared.Dated.{Dated}
 use Rattle.calendar.specs.declared.Dated.TheVariants as dated
-use Rattle.codes.specs.Block.{Content}
-use Rattle.writing.specs.Write.{written_block, fitting, length_of, output_of, paper_written}
+use Rattle.writing.specs.Write.{fitting, length_of, output_of, paper_written}
 use Rattle.writing.specs.declared.Written.{Written}
 use Rattle.writing.specs.declared.Written.TheVariants as written
 use Rattle.bulletin.specs.Bulletin as rule
@@ -29,7 +28,7 @@ use Rattle.bulletin.specs.Bulletin.{text_most, is_length, read_bulletin}
 use Rattle.lines.specs.declared.End.{End}
 use Rattle.segments.specs.Segments as rule-segments
 use Rattle.segments.specs.Seen.{seen, segments_held, Sized}
-use Rattle.bulletin.specs.Report.{reported, report_of, Reads}
+use Rattle.bulletin.specs.Report.{reported, Reads}
 use Rattle.segments.specs.declared.Segment.{Segment}
 use Rattle.segments.specs.declared.Segments.{Segments}
 use Rattle.bulletin.specs.declared.Head.{Head}

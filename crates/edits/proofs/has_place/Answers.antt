@@ -1,4 +1,3 @@
-use Prim.Native.Nat.{◌-◌}
 use Rattle.edits.proofs.Places.{seeks_start, seeks_on, seeks_here, seeks_end}
 use Rattle.std.proofs.Common.{rules}
 use Rattle.edits.proofs.has_place.Goals as goal

@@ -1,4 +1,3 @@
-use Prim.Native.Nat.{◌-◌}
 use Rattle.edits.proofs.Places.{carries_start, carries_swap, carries_on, with_held, with_fits}
 use Rattle.std.proofs.Common.{rules}
 use Rattle.edits.proofs.with_place.Goals as goal

@@ -1,4 +1,3 @@
-use Prim.Native.Nat.{◌-◌}
 use Rattle.edits.proofs.Places.{leaves_start, leaves_out, leaves_on, without_held, without_fits}
 use Rattle.std.proofs.Common.{rules}
 use Rattle.edits.proofs.without_place.Goals as goal

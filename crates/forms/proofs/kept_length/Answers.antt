@@ -1,4 +1,3 @@
-use Prim.Native.Nat.{◌-◌}
 use Rattle.forms.proofs.Keeping.{counting_start, counting_fits, counting_on, counting_end, counting_most, counting_done}
 use Rattle.std.proofs.Common.{rules}
 use Rattle.forms.proofs.kept_length.Goals as goal

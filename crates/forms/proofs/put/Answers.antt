@@ -1,4 +1,3 @@
-use Prim.Native.Nat.{◌-◌}
 use Rattle.laws.proofs.Stores.{copied_start, copied_on}
 use Rattle.forms.proofs.Putting.{put_stored}
 use Rattle.std.proofs.Common.{rules}

@@ -1,4 +1,3 @@
-use Prim.Native.Nat.{◌-◌}
 use Rattle.forms.proofs.Putting.{putting_start, putting_fits, putting_kept, putting_block, putting_on, putting_rest, putting_done, putting_same}
 use Rattle.std.proofs.Common.{rules}
 use Rattle.forms.proofs.put_edited.Goals as goal

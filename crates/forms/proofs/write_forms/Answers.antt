@@ -1,4 +1,3 @@
-use Prim.Native.Nat.{◌-◌}
 use Rattle.forms.proofs.Forming.{forming_start, forming_same, forming_held, forming_low, forming_total, forming_room, forming_on, forming_done}
 use Rattle.std.proofs.Common.{rules}
 use Rattle.forms.proofs.write_forms.Goals as goal
