@@ -45,7 +45,7 @@ reads_one text year month r q x y =
 pub keeps_one : (before m n text : List ℕ) (year month : ℕ) (r q : Bulletin) → KeepsPlaces before m text year month r → KeepsPlaces before n text year month q → Same r q m n
 keeps_one before m n text year month r q x y = record { answers = reads_one text year month r q x.answer y.answer; bytes = x.left ∙ sym y.left }
 
--- `find_segment`; for `view_answer` it is `verdict-one`, and for `view` `answer-one`
+-- `find_segment`; for `view_answer` it is `verdict_one`, and for `view` `answer_one`
 viewed_same : (v w : Viewed) → paper_viewed v ≡ paper_viewed w → v ≡ w
 viewed_same (viewed.One g) (viewed.One h) e = let p : g ≡ h = cc in ap viewed.One p
 viewed_same (viewed.One g) (viewed.Refused r) e = apart cc

@@ -22,7 +22,7 @@ abbrev pub ends_in : List Segment → List End
 ends_in gs = map (λ (g : Segment). g.ended) gs
 
 -- "the book's written form": that of each content, in order. R-5 "ends each new block's lines as that block's first line in the text ended": one end for each.
--- The writer's 24 is never met in a sound book (`forms-given`).
+-- The writer's 24 is never met in a sound book (`forms_given`).
 unfoldable pub written_forms : List End → List Content → Answer (List (List ℕ))
 written_forms ends [] = ok []
 written_forms [] (c ∷ cs) = ok []

@@ -59,7 +59,7 @@ block_number (segment n) = suc n
 block_number (copy d n) = copies_from d + n
 block_number (before s n) = befores_from s + n
 
--- The same two blocks of a draft that is counted from 1, as the calls count them, and of a step (layout/proofs/Stands: draft-blocks, step-blocks).
+-- The same two blocks of a draft that is counted from 1, as the calls count them, and of a step (layout/proofs/Stands: draft_blocks, step_blocks).
 abbrev pub first_taken : ℕ → ℕ
 first_taken d = 7 + 2 * d
 
@@ -72,7 +72,7 @@ first_before s = 17 + 2 * s
 abbrev pub second_before : ℕ → ℕ
 second_before s = 18 + 2 * s
 
--- the part that block k is for: the one of that number (layout/proofs/Stands: part-segment, part-copy, part-before)
+-- the part that block k is for: the one of that number (layout/proofs/Stands: part_segment, part_copy, part_before)
 unfoldable pub part_of : ℕ → Part
 part_of k =
     cond (ltb k (copies_from 0)) (segment (k - 1))

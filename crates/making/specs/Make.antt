@@ -43,7 +43,7 @@ abbrev pub or_no_segment : {A : Type 0} → Option A → Answer A
 or_no_segment none = refused no_such_segment 0
 or_no_segment (some x) = ok x
 
--- a segment's block: what `writing` gives for its places and purge, with lines that "end CR CR LF". In a sound book it gives one for every segment (`segment-blocked`).
+-- a segment's block: what `writing` gives for its places and purge, with lines that "end CR CR LF". In a sound book it gives one for every segment (`segment_blocked`).
 abbrev pub block_given : Answer (List ℕ) → Option (List ℕ)
 block_given (ok block) = some block
 block_given (no number place) = none

@@ -2,7 +2,6 @@
 #![tactic(auto)]
 
 ghost use Rattle.std.specs.Prelude.{◌≡◌, length};
-ghost use Rattle.codes.specs.Block.{content_at};
 ghost use Rattle.lines.specs.declared.End.TheVariants.{CrCrLf};
 ghost use Rattle.writing.specs.Write.{write_rule, length_of, output_of};
 ghost use Rattle.bulletin.specs.Bulletin.{read_bulletin};
@@ -10,11 +9,11 @@ ghost use Rattle.bulletin.specs.Report.{reported};
 ghost use Rattle.bulletin.specs.View.{view_of};
 ghost use Rattle.steps.specs.Calls.{on, taking, editing, read_purge, read_count, read_place, add, remove, set_purge, opening};
 ghost use Rattle.steps.specs.Calls as calls;
-ghost use Rattle.layout.specs.Rule.{on_bytes, paper_reply};
+ghost use Rattle.layout.specs.Rule.{on_bytes};
 ghost use Rattle.making.specs.Make.{make_rule, made_answer, made_bytes, write_on};
 ghost use Rattle.sending.specs.Send.{edited_rule};
 ghost use Rattle.packing.specs.Packing.{pack, packed, nothing, plain};
-ghost use Rattle.plugin.specs.Rules.{issue_in, count_in, bbb_in, identifier_in, storm_bits_in, view_bits_of, block_end_of, purge_minute_of, count_of, place_answer, place_in};
+ghost use Rattle.plugin.specs.Rules.{issue_in, count_in, bbb_in, identifier_in, storm_bits_in, view_bits_of, block_end_of, purge_minute_of, count_of, place_in};
 
 // ---- the book
 // Makes a book of a bulletin.

@@ -14,7 +14,7 @@ use Rattle.layout.specs.Layout.{book_of}
 use Rattle.layout.specs.Tests.{is_sound}
 use Rattle.forms.specs.Edited.{edited, ends_in, written_forms}
 
--- "The text is read afresh under the year and month of the book's issue minute": a sound book's has both (`sound-dated`).
+-- "The text is read afresh under the year and month of the book's issue minute": a sound book's has both (`sound_dated`).
 abbrev pub read_under : List ℕ → Option Date → Answer Bulletin
 read_under text none = refused wrong_time 0
 read_under text (some d) = read_bulletin text d.year d.month
