@@ -2,7 +2,7 @@ use Prim.Native.Nat.{◌-◌, ◌≤◌}
 use Rattle.printing.proofs.say_segments.Given as goal
 
 abbrev pub invariant-loop-i : goal.invariant-loop-i
-invariant-loop-i l = l.i ≤ l.count
+invariant-loop-i g l = l.i ≤ l.count
 
 abbrev pub decreases-loop-i : goal.decreases-loop-i
-decreases-loop-i l = l.count - l.i
+decreases-loop-i g l = l.count - l.i

@@ -1,4 +1,3 @@
-use Prim.Native.Nat.{◌-◌}
 use Rattle.replay.proofs.Ends.{passes_start, passes_on, passes_lf, passes_end}
 use Rattle.std.proofs.Common.{rules}
 use Rattle.replay.proofs.line_end.Goals as goal

@@ -1,4 +1,3 @@
-use Prim.Native.Nat.{◌-◌}
 use Rattle.replay.proofs.Words.{spells_start, spells_empty, spells_wrong, spells_many, spells_none, spells_on, spells_done}
 use Rattle.std.proofs.Common.{rules}
 use Rattle.replay.proofs.spell.Goals as goal

@@ -1,4 +1,3 @@
-use Prim.Native.Nat.{◌-◌}
 use Rattle.replay.proofs.Sums.{totals_start, totals_on, totals_done}
 use Rattle.std.proofs.Common.{rules}
 use Rattle.replay.proofs.total.Goals as goal
