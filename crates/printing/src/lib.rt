@@ -1,17 +1,19 @@
 // What the programs read and print: the time that a bulletin is read under, and the listing of a bulletin.
 #![tactic(auto)]
 
-ghost use Rattle.std.specs.Prelude.{◌≡◌, ◌≤◌, length, get_or};
+ghost use Rattle.std.specs.Prelude.{◌≡◌, ◌<◌, ◌≤◌, length, get_or, take, IfOk, OnOk, decimal};
+ghost use Rattle.std.specs.Io.KnownBytes.{Appends, Consumes, IsAtEnd};
 ghost use Rattle.lines.specs.Bytes.{digit};
 ghost use Rattle.printing.specs.Asked.{asked_of};
 ghost use Rattle.printing.specs.Paper.{paper_asked};
 
 use bulletin::{Head, Reading};
 use heading::{Basin, Bbb, Storm, StormId};
-use libc::STDOUT_FILENO;
 use lines::Lined;
 use refusal::Refusal;
 use segments::Segment;
+use std::io;
+use std::io::{Read, Write};
 use writing::Written;
 
 // The year and month that the first line names.
@@ -46,83 +48,105 @@ pub fn read_asked(input: &[u8]) -> Asked
     Asked::Wrong
 }
 
-pub fn say(text: &[u8]) {
-    io::write_all(STDOUT_FILENO, text);
+// Reads until the buffer is full or the input ends, and answers how many bytes it put at the buffer's start.
+pub fn read_full<R: Read>(input: &mut R, buf: &mut [u8]) -> io::Result<usize>
+    ensures in_bounds { IfOk result (λ n. n ≤ length buf.new) }
+    ensures bytes { IfOk result (λ n. Consumes (R.remaining input.old) (R.remaining input.new) (take n buf.new)) }
+    ensures end { IfOk result (λ n. n < length buf.new → IsAtEnd (R.remaining input.new)) }
+{
+    let mut done = 0;
+    while done < buf.len() {
+        let n = input.read(&mut buf[done..])?;
+        if n == 0 {
+            return Ok(done);
+        }
+        done += n;
+    }
+    Ok(done)
 }
 
-pub fn say_number(n: usize) {
-    io::print_decimal(STDOUT_FILENO, n as u64);
+pub fn say<W: Write>(out: &mut W, text: &[u8]) -> io::Result<()>
+    ensures { OnOk result (Appends (W.contents out.old) (W.contents out.new) text.now) }
+{
+    out.write_all(text)
+}
+
+pub fn say_number<W: Write>(out: &mut W, n: usize) -> io::Result<()>
+    ensures { OnOk result (Appends (W.contents out.old) (W.contents out.new) (decimal n)) }
+{
+    write!(out, "{n}")
 }
 
 // The last two digits of a number.
-fn say_two(n: usize) {
+fn say_two<W: Write>(out: &mut W, n: usize) -> io::Result<()> {
     let text = [b'0' + (n / 10 % 10) as u8, b'0' + (n % 10) as u8];
-    say(&text);
+    say(out, &text)
 }
 
 // `R`, the number and the place.
-pub fn say_refusal(r: Refusal) {
-    say(b"R ");
-    say_number(r.number);
-    say(b" ");
-    say_number(r.place);
-    say(b"\n");
+pub fn say_refusal<W: Write>(out: &mut W, r: Refusal) -> io::Result<()> {
+    say(out, b"R ")?;
+    say_number(out, r.number)?;
+    say(out, b" ")?;
+    say_number(out, r.place)?;
+    say(out, b"\n")
 }
 
-fn say_bbb(bbb: Bbb) {
+fn say_bbb<W: Write>(out: &mut W, bbb: Bbb) -> io::Result<()> {
     match bbb {
-        Bbb::Nothing => say(b"-"),
+        Bbb::Nothing => say(out, b"-"),
         Bbb::Code(a, b, c) => {
             let text = [a, b, c];
-            say(&text);
+            say(out, &text)
         }
     }
 }
 
-fn say_basin(basin: Basin) {
+fn say_basin<W: Write>(out: &mut W, basin: Basin) -> io::Result<()> {
     match basin {
-        Basin::Al => say(b"AL"),
-        Basin::Sl => say(b"SL"),
-        Basin::Ep => say(b"EP"),
-        Basin::Cp => say(b"CP"),
-        Basin::Wp => say(b"WP"),
+        Basin::Al => say(out, b"AL"),
+        Basin::Sl => say(out, b"SL"),
+        Basin::Ep => say(out, b"EP"),
+        Basin::Cp => say(out, b"CP"),
+        Basin::Wp => say(out, b"WP"),
     }
 }
 
-fn say_storm(storm: Storm) {
+fn say_storm<W: Write>(out: &mut W, storm: Storm) -> io::Result<()> {
     match storm {
-        Storm::None => say(b"-"),
+        Storm::None => say(out, b"-"),
         Storm::Found(id) => {
             let basin = id.basin;
-            say_basin(basin);
-            say_two(id.number);
-            say_two(id.year / 100);
-            say_two(id.year);
+            say_basin(out, basin)?;
+            say_two(out, id.number)?;
+            say_two(out, id.year / 100)?;
+            say_two(out, id.year)
         }
     }
 }
 
 // The line that starts at `at`, without its end.
-fn say_line(text: &[u8], at: usize) {
+fn say_line<W: Write>(out: &mut W, text: &[u8], at: usize) -> io::Result<()> {
     if let Lined::Line(line) = lines::find_line(text, at) {
-        say(lines::part(text, line.start, line.end));
+        say(out, lines::part(text, line.start, line.end))?;
     }
+    Ok(())
 }
 
 // The heading's three fields, BBB or `-`, the identifier, the storm or `-`.
-fn say_head(text: &[u8], head: Head) {
+fn say_head<W: Write>(out: &mut W, text: &[u8], head: Head) -> io::Result<()> {
     let heading = head.heading;
     let bbb = heading.bbb;
     let storm = head.storm;
-    say(b"H ");
-    say(lines::part(text, 0, 18));
-    say(b" ");
-    say_bbb(bbb);
-    say(b" ");
-    say_line(text, head.identifier);
-    say(b" ");
-    say_storm(storm);
-    say(b"\n");
+    say(out, b"H ")?;
+    say(out, lines::part(text, 0, 18))?;
+    say(out, b" ")?;
+    say_bbb(out, bbb)?;
+    say(out, b" ")?;
+    say_line(out, text, head.identifier)?;
+    say(out, b" ")?;
+    say_storm(out, storm)?;
+    say(out, b"\n")
 }
 
 // Takes the line ends out of the first n bytes, and answers how many bytes are left.
@@ -144,49 +168,62 @@ fn strip(block: &mut [u8], n: usize) -> usize
 }
 
 // A segment's number, purge minute, count and written block without line ends.
-fn say_segment(text: &[u8], issue: usize, number: usize, segment: Segment) {
+fn say_segment<W: Write>(
+    out: &mut W,
+    text: &[u8],
+    issue: usize,
+    number: usize,
+    segment: Segment,
+) -> io::Result<()> {
     let content = reading::read_content(text, segment.start, issue);
     let places = content.places;
     let held = places.held;
     let count = places.count;
     let mut block = [0u8; 2048];
-    say(b"S ");
-    say_number(number);
-    say(b" ");
-    say_number(segment.purge);
-    say(b" ");
-    say_number(count);
-    say(b" ");
+    say(out, b"S ")?;
+    say_number(out, number)?;
+    say(out, b" ")?;
+    say_number(out, segment.purge)?;
+    say(out, b" ")?;
+    say_number(out, count)?;
+    say(out, b" ")?;
     if let Written::Length(n) = writing::write_block(&mut block, &held[0..count], segment.purge) {
         if n <= 2048 {
             let kept = strip(&mut block, n);
-            say(&block[0..kept]);
+            say(out, &block[0..kept])?;
         }
     }
-    say(b"\n");
+    say(out, b"\n")
 }
 
-fn say_segments(text: &[u8], issue: usize, held: [Segment; 8], count: usize)
+fn say_segments<W: Write>(
+    out: &mut W,
+    text: &[u8],
+    issue: usize,
+    held: [Segment; 8],
+    count: usize,
+) -> io::Result<()>
     requires { count ≤ 8 }
 {
     let mut i = 0;
     while i < count {
-        say_segment(text, issue, i + 1, held[i]);
+        say_segment(out, text, issue, i + 1, held[i])?;
         i += 1;
     }
+    Ok(())
 }
 
 // The listing of a bulletin, read under a year and a month: nothing is printed before the whole answer is known.
-pub fn list(text: &[u8], year: usize, month: usize) {
+pub fn list<W: Write>(out: &mut W, text: &[u8], year: usize, month: usize) -> io::Result<()> {
     let bulletin = bulletin::read(text, year, month);
     let segments = bulletin.segments;
     let reading = bulletin.reading;
     match reading {
-        Reading::Refused(r) => say_refusal(r),
+        Reading::Refused(r) => say_refusal(out, r),
         Reading::Accepted(head) => {
-            say_head(text, head);
+            say_head(out, text, head)?;
             let held = segments.held;
-            say_segments(text, head.issue, held, segments.count);
+            say_segments(out, text, head.issue, held, segments.count)
         }
     }
 }

@@ -1,7 +1,7 @@
 -- A text that takes the place of a case's own: `% n`. Assumes nothing.
 use Prim.Native.Nat.{ℕ, zero, suc, ◌+◌, ◌-◌, ◌≤◌, ◌<◌}
 use native.Mathlib.Omega.{arith}
-use mathlib.Core.Path.{◌≡◌, refl, sym, ◌∙◌}
+use mathlib.Core.Path.{◌≡◌, refl}
 use mathlib.Core.List.{List, [], ◌∷◌}
 use mathlib.Core.Bool.{Bool, true, false, cond, ◌&&◌}
 use mathlib.Core.Option.{Option, none, some}
@@ -9,8 +9,10 @@ use lib.ListN.{length, get_or, take, drop, length-drop, drop_of_length-le}
 use lib.Seq.{drop-drop}
 use lib.Dec.{eqb}
 use borrow.Author.Tests.{ne_eqb, le-leb, lt-leb}
+use Rattle.std.specs.Prelude.{IfOk}
+use Rattle.std.specs.declared.result.Result.{Result}
+use Rattle.std.specs.declared.result.Result.TheVariants.{Ok, Err}
 use Rattle.laws.proofs.Tests.{by, impossible}
-use Rattle.lines.specs.Spans.{part}
 use Rattle.replay.specs.Lines.{CallLine, Standing, only_one, percent, text_asked, following, replaced, after_line, paper_line, paper_progress}
 use Rattle.replay.specs.declared.Line.{Line}
 use Rattle.replay.specs.declared.Progress.{Progress}
@@ -38,6 +40,12 @@ module _ (l : Option CallLine) (n : ℕ) (asks : Bool) (e : text_asked l ≡ con
   pub line_text : (r : Standing) → asks ≡ true → r ≡ replaced n c → r ≡ after_line l c
   unfolding after_line
   line_text r t q = rw (e, t) q
+
+  -- the same of an answer that may be an error
+  pub line_answer : {E : Type 0} (s : List ℕ) (r : Result Progress E) → asks ≡ true
+      → IfOk r (λ after. paper_progress s after ≡ replaced n c) → IfOk r (λ after. paper_progress s after ≡ after_line l c)
+  line_answer s (Ok after) t q = line_text (paper_progress s after) t q
+  line_answer s (Err x) t q = tt
 
   pub line_other : asks ≡ false → c ≡ after_line l c
   unfolding after_line

@@ -1,7 +1,7 @@
 // The replay program: bulletins, and after each a list of calls on its book; it prints a line for each.
 #![tactic(auto)]
 
-ghost use Rattle.std.specs.Prelude.{◌≡◌, false, cond, ◌+◌, ◌*◌, ◌≤◌, ◌<◌, length, get_or, drop};
+ghost use Rattle.std.specs.Prelude.{◌≡◌, false, cond, ◌+◌, ◌*◌, ◌≤◌, ◌<◌, length, get_or, drop, IfOk};
 ghost use Rattle.std.proofs.Math.Option.{none, some};
 ghost use Rattle.lines.specs.Bytes.{lf};
 ghost use Rattle.replay.specs.Lines.{call_line, line_up_to, case_of, number_from, paper_line, paper_opening, lines_within};
@@ -9,9 +9,10 @@ ghost use Rattle.replay.specs.Lines.{weighted_sum, text_asked, replaced, after_l
 
 use calendar::Stamp;
 use layout::{Changed, Reply};
-use libc::STDIN_FILENO;
 use printing::Asked;
 use refusal::{Refusal, Verdict};
+use std::io;
+use std::io::Write;
 use writing::Written;
 
 // The most bytes of input, and the bytes of a case's buffer and of a book.
@@ -178,64 +179,64 @@ fn read_opening(input: &[u8], at: usize) -> Opening
 }
 
 // ---- answers
-fn refuse(number: usize) {
-    printing::say_refusal(Refusal { number, place: 0 });
+fn refuse<W: Write>(to: &mut W, number: usize) -> io::Result<()> {
+    printing::say_refusal(to, Refusal { number, place: 0 })
 }
 
 // The answer to a line that is no call.
-fn say_unknown() {
-    printing::say(b"?\n");
+fn say_unknown<W: Write>(to: &mut W) -> io::Result<()> {
+    printing::say(to, b"?\n")
 }
 
 // A letter, a number after a space, and the line's end.
-fn say_value(letter: &[u8], n: usize) {
-    printing::say(letter);
-    printing::say(b" ");
-    printing::say_number(n);
-    printing::say(b"\n");
+fn say_value<W: Write>(to: &mut W, letter: &[u8], n: usize) -> io::Result<()> {
+    printing::say(to, letter)?;
+    printing::say(to, b" ")?;
+    printing::say_number(to, n)?;
+    printing::say(to, b"\n")
 }
 
-fn say_next(n: usize) {
-    printing::say(b" ");
-    printing::say_number(n);
+fn say_next<W: Write>(to: &mut W, n: usize) -> io::Result<()> {
+    printing::say(to, b" ")?;
+    printing::say_number(to, n)
 }
 
-fn say_changed(c: Changed) {
-    printing::say(b"S");
+fn say_changed<W: Write>(to: &mut W, c: Changed) -> io::Result<()> {
+    printing::say(to, b"S")?;
     match c {
         Changed::Nothing => {}
-        Changed::One(a) => say_next(a),
+        Changed::One(a) => say_next(to, a)?,
         Changed::Two(a, b) => {
-            say_next(a);
-            say_next(b);
+            say_next(to, a)?;
+            say_next(to, b)?;
         }
     }
-    printing::say(b"\n");
+    printing::say(to, b"\n")
 }
 
-fn say_was(there: bool) {
+fn say_was<W: Write>(to: &mut W, there: bool) -> io::Result<()> {
     if there {
-        printing::say(b"V 1\n");
+        printing::say(to, b"V 1\n")
     } else {
-        printing::say(b"V 0\n");
+        printing::say(to, b"V 0\n")
     }
 }
 
-fn say_reply(r: Reply) {
+fn say_reply<W: Write>(to: &mut W, r: Reply) -> io::Result<()> {
     match r {
-        Reply::Draft(d) => say_value(b"D", d),
-        Reply::Done => printing::say(b"K\n"),
-        Reply::Number(n) => say_value(b"V", n),
-        Reply::Was(there) => say_was(there),
-        Reply::Segments(c) => say_changed(c),
-        Reply::Refused(r) => printing::say_refusal(r),
+        Reply::Draft(d) => say_value(to, b"D", d),
+        Reply::Done => printing::say(to, b"K\n"),
+        Reply::Number(n) => say_value(to, b"V", n),
+        Reply::Was(there) => say_was(to, there),
+        Reply::Segments(c) => say_changed(to, c),
+        Reply::Refused(r) => printing::say_refusal(to, r),
     }
 }
 
-fn say_verdict(v: Verdict) {
+fn say_verdict<W: Write>(to: &mut W, v: Verdict) -> io::Result<()> {
     match v {
-        Verdict::Accepted => printing::say(b"K\n"),
-        Verdict::Refused(r) => printing::say_refusal(r),
+        Verdict::Accepted => printing::say(to, b"K\n"),
+        Verdict::Refused(r) => printing::say_refusal(to, r),
     }
 }
 
@@ -246,7 +247,7 @@ fn hex(n: u8) -> u8 {
 }
 
 // The bytes in lower-case hex, a block's 512 at once.
-fn say_hex(bytes: &[u8]) {
+fn say_hex<W: Write>(to: &mut W, bytes: &[u8]) -> io::Result<()> {
     let mut text = [0u8; 1024];
     let mut filled: usize = 0;
     let mut i: usize = 0;
@@ -257,11 +258,11 @@ fn say_hex(bytes: &[u8]) {
         filled += 2;
         i += 1;
         if 1022 < filled {
-            printing::say(&text);
+            printing::say(to, &text)?;
             filled = 0;
         }
     }
-    printing::say(&text[0..filled]);
+    printing::say(to, &text[0..filled])
 }
 
 // ---- calls
@@ -311,47 +312,59 @@ fn book_call(book: &mut [u8], kind: u8, n: [usize; 5]) -> Reply {
 }
 
 // Writes a segment into the output, and prints all of it.
-fn write_into(book: &[u8], s: usize, out: &mut [u8]) {
+fn write_into<W: Write>(to: &mut W, book: &[u8], s: usize, out: &mut [u8]) -> io::Result<()> {
     match making::write(book, s, out) {
         Written::Length(n) => {
-            printing::say(b"W ");
-            printing::say_number(n);
-            printing::say(b" ");
-            say_hex(out);
-            printing::say(b"\n");
+            printing::say(to, b"W ")?;
+            printing::say_number(to, n)?;
+            printing::say(to, b" ")?;
+            say_hex(to, out)?;
+            printing::say(to, b"\n")
         }
-        Written::Refused(r) => printing::say_refusal(r),
+        Written::Refused(r) => printing::say_refusal(to, r),
     }
 }
 
-fn write_line(book: &[u8], s: usize, room: usize) {
+fn write_line<W: Write>(to: &mut W, book: &[u8], s: usize, room: usize) -> io::Result<()> {
     if OUTPUT < room {
-        return say_unknown();
+        return say_unknown(to);
     }
     let mut out = [0x5Au8; 2000];
-    write_into(book, s, &mut out[0..room]);
+    write_into(to, book, s, &mut out[0..room])
 }
 
 // The place and length in the bulletin of a segment that a view gives.
-fn say_view(text: &[u8], year: usize, month: usize, n: usize) {
+fn say_view<W: Write>(
+    to: &mut W,
+    text: &[u8],
+    year: usize,
+    month: usize,
+    n: usize,
+) -> io::Result<()> {
     let segments = bulletin::read(text, year, month).segments;
     let held = segments.held;
     if n < 1 {
-        return;
+        return Ok(());
     }
     if 8 < n {
-        return;
+        return Ok(());
     }
-    printing::say(b"G ");
-    printing::say_number(held[n - 1].start);
-    say_next(bulletin::view(text, year, month, n).len());
-    printing::say(b"\n");
+    printing::say(to, b"G ")?;
+    printing::say_number(to, held[n - 1].start)?;
+    say_next(to, bulletin::view(text, year, month, n).len())?;
+    printing::say(to, b"\n")
 }
 
-fn view_line(text: &[u8], year: usize, month: usize, n: usize) {
+fn view_line<W: Write>(
+    to: &mut W,
+    text: &[u8],
+    year: usize,
+    month: usize,
+    n: usize,
+) -> io::Result<()> {
     match bulletin::view_answer(text, year, month, n) {
-        Verdict::Refused(r) => printing::say_refusal(r),
-        Verdict::Accepted => say_view(text, year, month, n),
+        Verdict::Refused(r) => printing::say_refusal(to, r),
+        Verdict::Accepted => say_view(to, text, year, month, n),
     }
 }
 
@@ -378,102 +391,121 @@ fn total(bytes: &[u8]) -> usize
 }
 
 // Writes the edited bulletin into the output, and prints its length and the sum of the whole output.
-fn write_edited_into(text: &[u8], book: &[u8], out: &mut [u8])
+fn write_edited_into<W: Write>(
+    to: &mut W,
+    text: &[u8],
+    book: &[u8],
+    out: &mut [u8],
+) -> io::Result<()>
     requires { length out.old ≤ 20000 }
 {
     match sending::write_edited(text, book, out) {
         Written::Length(n) => {
-            printing::say(b"F ");
-            printing::say_number(n);
-            say_next(total(out));
-            printing::say(b"\n");
+            printing::say(to, b"F ")?;
+            printing::say_number(to, n)?;
+            say_next(to, total(out))?;
+            printing::say(to, b"\n")
         }
-        Written::Refused(r) => printing::say_refusal(r),
+        Written::Refused(r) => printing::say_refusal(to, r),
     }
 }
 
-fn edited_line(text: &[u8], book: &[u8], room: usize) {
+fn edited_line<W: Write>(to: &mut W, text: &[u8], book: &[u8], room: usize) -> io::Result<()> {
     if EDITED < room {
-        return say_unknown();
+        return say_unknown(to);
     }
     let mut out = [0x5Au8; 20000];
-    write_edited_into(text, book, &mut out[0..room]);
+    write_edited_into(to, text, book, &mut out[0..room])
 }
 
 // ---- lines that are no call, and see the whole buffer
-fn block_line(buffer: &[u8], i: usize)
+fn block_line<W: Write>(to: &mut W, buffer: &[u8], i: usize) -> io::Result<()>
     requires { length buffer.now ≡ 30000 }
 {
     if 57 < i {
-        return say_unknown();
+        return say_unknown(to);
     }
     let at = i * 512;
     let end = at + 512;
-    printing::say(b"B ");
-    say_hex(&buffer[at..end]);
-    printing::say(b"\n");
+    printing::say(to, b"B ")?;
+    say_hex(to, &buffer[at..end])?;
+    printing::say(to, b"\n")
 }
 
-fn byte_line(buffer: &mut [u8], at: usize, b: usize)
+fn byte_line<W: Write>(to: &mut W, buffer: &mut [u8], at: usize, b: usize) -> io::Result<()>
     requires { length buffer.old ≡ 30000 }
 {
     if BUFFER <= at {
-        return say_unknown();
+        return say_unknown(to);
     }
     if 255 < b {
-        return say_unknown();
+        return say_unknown(to);
     }
     buffer[at] = b as u8;
-    printing::say(b"!\n");
+    printing::say(to, b"!\n")
 }
 
 // Answers how much is lent from now on.
-fn lend_line(lent: usize, n: usize) -> usize
+fn lend_line<W: Write>(to: &mut W, lent: usize, n: usize) -> io::Result<usize>
     requires { lent ≤ 30000 }
-    ensures { result ≤ 30000 }
+    ensures { IfOk result (λ lent. lent ≤ 30000) }
 {
     if BUFFER < n {
-        say_unknown();
-        return lent;
+        say_unknown(to)?;
+        return Ok(lent);
     }
-    printing::say(b"!\n");
-    n
+    printing::say(to, b"!\n")?;
+    Ok(n)
 }
 
 // Makes a book of the bulletin in what is lent of the buffer.
-fn make_line(buffer: &mut [u8], lent: usize, text: &[u8], year: usize, month: usize)
+fn make_line<W: Write>(
+    to: &mut W,
+    buffer: &mut [u8],
+    lent: usize,
+    text: &[u8],
+    year: usize,
+    month: usize,
+) -> io::Result<()>
     requires { (length buffer.old ≡ 30000) × (lent ≤ 30000) }
 {
-    say_verdict(making::make(&mut buffer[0..lent], text, year, month));
+    say_verdict(to, making::make(&mut buffer[0..lent], text, year, month))
 }
 
 // ---- the run
 // Does a call line on what is lent of the buffer, and answers how much is lent from now on.
-fn act(buffer: &mut [u8], lent: usize, text: &[u8], source: Source, line: Line) -> usize
+fn act<W: Write>(
+    to: &mut W,
+    buffer: &mut [u8],
+    lent: usize,
+    text: &[u8],
+    source: Source,
+    line: Line,
+) -> io::Result<usize>
     requires { (length buffer.old ≡ 30000) × (lent ≤ 30000) }
-    ensures { result ≤ 30000 }
+    ensures { IfOk result (λ lent. lent ≤ 30000) }
 {
     let kind = line.kind;
     let n = line.numbers;
     let year = source.year;
     let month = source.month;
     if !line.known | (line.count != takes(kind)) {
-        say_unknown();
-        return lent;
+        say_unknown(to)?;
+        return Ok(lent);
     }
     match kind {
-        b'L' => return lend_line(lent, n[0]),
-        b'B' => block_line(buffer, n[0]),
-        b'!' => byte_line(buffer, n[0], n[1]),
-        b'Z' => say_value(b"Z", total(buffer)),
-        b'V' => view_line(text, year, month, n[0]),
-        b'E' => printing::list(text, year, month),
-        b'W' => write_line(&buffer[0..lent], n[0], n[1]),
-        b'F' => edited_line(text, &buffer[0..lent], n[0]),
-        b'+' => make_line(buffer, lent, text, year, month),
-        _ => say_reply(book_call(&mut buffer[0..lent], kind, n)),
+        b'L' => return lend_line(to, lent, n[0]),
+        b'B' => block_line(to, buffer, n[0])?,
+        b'!' => byte_line(to, buffer, n[0], n[1])?,
+        b'Z' => say_value(to, b"Z", total(buffer))?,
+        b'V' => view_line(to, text, year, month, n[0])?,
+        b'E' => printing::list(to, text, year, month)?,
+        b'W' => write_line(to, &buffer[0..lent], n[0], n[1])?,
+        b'F' => edited_line(to, text, &buffer[0..lent], n[0])?,
+        b'+' => make_line(to, buffer, lent, text, year, month)?,
+        _ => say_reply(to, book_call(&mut buffer[0..lent], kind, n))?,
     }
-    lent
+    Ok(lent)
 }
 
 // How far a case has come: where its text stands in the input, where its next line starts, and how much of the buffer is lent.
@@ -493,60 +525,66 @@ fn asks_text(line: Line) -> bool
 }
 
 // `% n`: the n bytes behind the line become the case's text. Where fewer follow, the program ends: no line of the input is left to do.
-fn text_line(input: &[u8], progress: Progress, n: usize) -> Progress
+fn text_line<W: Write>(
+    to: &mut W,
+    input: &[u8],
+    progress: Progress,
+    n: usize,
+) -> io::Result<Progress>
     requires { (progress.next ≤ length input.now) × (progress.lent ≤ 30000) }
-    ensures is { paper_progress input.now result ≡ replaced n (paper_progress input.now progress) }
-    ensures goes { Onward (length input.now) progress result }
+    ensures is { IfOk result (λ after. paper_progress input.now after ≡ replaced n (paper_progress input.now progress)) }
+    ensures goes { IfOk result (λ after. Onward (length input.now) progress after) }
 {
     if TEXT < n {
-        say_unknown();
-        return progress;
+        say_unknown(to)?;
+        return Ok(progress);
     }
     let start = progress.next;
     let mut after = progress;
     if input.len() - start < n {
-        say_unknown();
+        say_unknown(to)?;
         after.next = input.len();
-        return after;
+        return Ok(after);
     }
-    printing::say(b"!\n");
+    printing::say(to, b"!\n")?;
     after.start = start;
     after.end = start + n;
     after.next = start + n;
-    after
+    Ok(after)
 }
 
 // Does a line: `% n` is about the input, and any other line is a call or prints `?`.
-fn do_line(
+fn do_line<W: Write>(
+    to: &mut W,
     buffer: &mut [u8],
     input: &[u8],
     source: Source,
     progress: Progress,
     line: Line,
-) -> Progress
+) -> io::Result<Progress>
     requires { (length buffer.old ≡ 30000) × (progress.next ≤ length input.now) × (progress.lent ≤ 30000) }
-    ensures is { paper_progress input.now result ≡ after_line (paper_line line) (paper_progress input.now progress) }
-    ensures goes { Onward (length input.now) progress result }
+    ensures is { IfOk result (λ after. paper_progress input.now after ≡ after_line (paper_line line) (paper_progress input.now progress)) }
+    ensures goes { IfOk result (λ after. Onward (length input.now) progress after) }
 {
     let asked = asks_text(line);
     if asked {
         let n = line.numbers;
-        return text_line(input, progress, n[0]);
+        return text_line(to, input, progress, n[0]);
     }
     let text = lines::part(input, progress.start, progress.end);
     let mut after = progress;
-    after.lent = act(buffer, progress.lent, text, source, line);
-    after
+    after.lent = act(to, buffer, progress.lent, text, source, line)?;
+    Ok(after)
 }
 
 // Does a case: its book, and its call lines; answers where the next case starts, or the input's length.
-fn run(input: &[u8], source: Source) -> usize
+fn run<W: Write>(to: &mut W, input: &[u8], source: Source) -> io::Result<usize>
     requires { source.end ≤ length input.now }
-    ensures { (source.end ≤ result) × (result ≤ length input.now) }
+    ensures { IfOk result (λ next. (source.end ≤ next) × (next ≤ length input.now)) }
 {
     let mut buffer = [0xAAu8; 30000];
     let text = lines::part(input, source.start, source.end);
-    make_line(&mut buffer, BOOK, text, source.year, source.month);
+    make_line(to, &mut buffer, BOOK, text, source.year, source.month)?;
     let mut progress = Progress {
         start: source.start,
         end: source.end,
@@ -557,29 +595,29 @@ fn run(input: &[u8], source: Source) -> usize
         let at = progress.next;
         let end = line_end(input, at);
         if input.len() <= end {
-            say_unknown();
-            return end;
+            say_unknown(to)?;
+            return Ok(end);
         }
         let line = &input[at..end];
         progress.next = end + 1;
         if (line.len() == 1) & (lines::byte(line, 0) == b'.') {
-            return end + 1;
+            return Ok(end + 1);
         }
-        progress = do_line(&mut buffer, input, source, progress, spell(line));
+        progress = do_line(to, &mut buffer, input, source, progress, spell(line))?;
     }
-    progress.next
+    Ok(progress.next)
 }
 
 // Case after case, up to the input's end.
-fn run_all(input: &[u8]) {
+fn run_all<W: Write>(to: &mut W, input: &[u8]) -> io::Result<()> {
     let mut at = 0;
     loop {
         let Opening::Case(source) = read_opening(input, at) else {
-            return refuse(refusal::OUT_OF_RANGE);
+            return refuse(to, refusal::OUT_OF_RANGE);
         };
-        at = run(input, source);
+        at = run(to, input, source)?;
         if input.len() <= at {
-            return;
+            return Ok(());
         }
     }
 }
@@ -589,11 +627,12 @@ fn room() -> [u8; 1048577] {
     [0; 1048577]
 }
 
-fn main() {
+fn main(rt: HostRuntime) -> io::Result<()> {
     let mut input = room();
-    let got = io::read_full(STDIN_FILENO, &mut input);
+    let got = printing::read_full(&mut rt.reader(), &mut input)?;
+    let mut to = io::writer(&rt);
     if INPUT < got {
-        return refuse(refusal::WRONG_LENGTH);
+        return refuse(&mut to, refusal::WRONG_LENGTH);
     }
-    run_all(&input[0..got]);
+    run_all(&mut to, &input[0..got])
 }
