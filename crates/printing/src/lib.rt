@@ -65,6 +65,8 @@ pub fn read_full<R: Read>(input: &mut R, buf: &mut [u8]) -> io::Result<usize>
     Ok(done)
 }
 
+// A write that fails answers its error, which is of I/O and no other; a front part of what was to be printed may then stand in the writer. So it is with each function
+// here that prints.
 pub fn say<W: Write>(out: &mut W, text: &[u8]) -> io::Result<()>
     ensures { OnOk result (Appends (W.contents out.old) (W.contents out.new) text.now) }
 {

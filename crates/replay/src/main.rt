@@ -179,6 +179,7 @@ fn read_opening(input: &[u8], at: usize) -> Opening
 }
 
 // ---- answers
+// A write that fails ends the program with its error: no line is done after it, and what was done stays done.
 fn refuse<W: Write>(to: &mut W, number: usize) -> io::Result<()> {
     printing::say_refusal(to, Refusal { number, place: 0 })
 }
