@@ -2,7 +2,7 @@
 use mathlib.Core.Path.{◌≡◌, refl, sym, ap, ap₂, ◌∙◌, subst}
 use mathlib.Core.Bool.{true, false≢true, ◌&&◌}
 use mathlib.Core.List.{List, [], ◌∷◌, ◌++◌, append_assoc}
-use mathlib.Core.Option.{Option, none, some}
+use Rattle.std.specs.Prelude.{Option, None, Some}
 use Prim.Native.Nat.{ℕ, suc, ◌+◌, ◌*◌, ◌-◌, ◌/◌, ◌%◌, ◌≤◌, ◌<◌}
 use native.Mathlib.Omega.{arith}
 use lib.ListN.{length, take, drop, get_or, set, replicate, length-replicate, get_or-replicate, length-drop, length-append}
@@ -57,17 +57,17 @@ content_length c h =
     simp length-append (omega arith)
 
 -- a used block's length, an unused one's, either's
-pub used_length : (c : Content) → length c.places ≤ capacity → length (holding (some c)) ≡ block_length
+pub used_length : (c : Content) → length c.places ≤ capacity → length (holding (Some c)) ≡ block_length
 unfolding holding
 used_length c h = sealed_length (content_bytes c) ∙ content_length c h
 
-pub unused_length : length (holding none) ≡ block_length
+pub unused_length : length (holding None) ≡ block_length
 unfolding holding
 unused_length = sealed_length (replicate block_length 0) ∙ length-replicate {A = ℕ} block_length 0
 
-pub holding_length : (o : Option Content) → ((c : Content) → o ≡ some c → length c.places ≤ capacity) → length (holding o) ≡ block_length
-holding_length none h = unused_length
-holding_length (some c) h = used_length c (h c refl)
+pub holding_length : (o : Option Content) → ((c : Content) → o ≡ Some c → length c.places ≤ capacity) → length (holding o) ≡ block_length
+holding_length None h = unused_length
+holding_length (Some c) h = used_length c (h c refl)
 
 -- ---- what the tests say
 -- a sound content
@@ -162,7 +162,7 @@ module _ (issue : ℕ) (b : List ℕ) (len : length b ≡ block_length) (y : Byt
       ))
 
   -- it is the bytes of what it says
-  pub block_back : holding (some (content_of b)) ≡ b
+  pub block_back : holding (Some (content_of b)) ≡ b
   unfolding holding content_bytes content_of
   block_back =
       let n : ℕ = get_or b 4 0 in
@@ -188,7 +188,7 @@ module _ (issue : ℕ) (b : List ℕ) (len : length b ≡ block_length) (y : Byt
 
 -- what a good block says is sound, and the block is the bytes of it
 pub content_back : (issue : ℕ) (b : List ℕ) → length b ≡ block_length → Bytes b → is_used issue b ≡ true
-    → (holding (some (content_of b)) ≡ b) × (is_content issue (content_of b) ≡ true)
+    → (holding (Some (content_of b)) ≡ b) × (is_content issue (content_of b) ≡ true)
 content_back issue b len y e =
     let u = used_true issue b e in
     (block_back issue b len y u, sound_is issue (content_of b) (block_sound issue b len y u))
@@ -219,11 +219,11 @@ three P a b c i h g =
 
 module _ (issue : ℕ) (c : Content) (s : Sound issue c) where
   -- what the block's parts say
-  count_is : get_or (holding (some c)) 4 0 ≡ length c.places
+  count_is : get_or (holding (Some c)) 4 0 ≡ length c.places
   unfolding holding content_bytes
   count_is = sealed_at (content_bytes c) 4 (omega arith)
 
-  purge_is_lem : number_at (holding (some c)) 0 ≡ c.purge
+  purge_is_lem : number_at (holding (Some c)) 0 ≡ c.purge
   unfolding holding content_bytes
   purge_is_lem =
       let b : List ℕ = content_bytes c in
@@ -231,7 +231,7 @@ module _ (issue : ℕ) (c : Content) (s : Sound issue c) where
       (number_forth c.purge (purge_32 issue c.purge s.purged))
 
   -- after the places something that does not matter
-  rest_is : (r : List ℕ) × (drop 8 (holding (some c)) ≡ flat bytes32 c.places ++ r)
+  rest_is : (r : List ℕ) × (drop 8 (holding (Some c)) ≡ flat bytes32 c.places ++ r)
   unfolding holding content_bytes sealed
   rest_is =
       let f : List ℕ = flat bytes32 c.places in
@@ -250,27 +250,27 @@ module _ (issue : ℕ) (c : Content) (s : Sound issue c) where
             ∙ set_append_right f (set z (502 - length f) x) (503 - length f) y,
       )
 
-  places_are_lem : numbers_of (get_or (holding (some c)) 4 0) (drop 8 (holding (some c))) ≡ c.places
+  places_are_lem : numbers_of (get_or (holding (Some c)) 4 0) (drop 8 (holding (Some c))) ≡ c.places
   places_are_lem = ap₂ numbers_of count_is rest_is.1 ∙ numbers_forth 0 c.places rest_is.0 s.up
 
   -- the block says the content
-  pub content_said : content_of (holding (some c)) ≡ c
+  pub content_said : content_of (holding (Some c)) ≡ c
   unfolding content_of
   content_said = λ i. record { purge = purge_is_lem i; places = places_are_lem i }
 
   -- and passes each test
-  checked_is : checked (holding (some c)) ≡ true
+  checked_is : checked (holding (Some c)) ≡ true
   unfolding holding
   checked_is = sealed_checked (content_bytes c) (content_length c s.few)
 
-  head_is : all_zero (slice 5 8 (holding (some c))) ≡ true
+  head_is : all_zero (slice 5 8 (holding (Some c))) ≡ true
   unfolding holding content_bytes
   head_is =
       let b : List ℕ = content_bytes c in
       slice_zero 5 8 (sealed b) (omega (arith, used_length c s.few))
       (three (λ (i : ℕ). get_or (sealed b) i 0 ≡ 0) (sealed_at b 5 (omega arith)) (sealed_at b 6 (omega arith)) (sealed_at b 7 (omega arith)))
 
-  tail_is : all_zero (slice (8 + 4 * length c.places) 510 (holding (some c))) ≡ true
+  tail_is : all_zero (slice (8 + 4 * length c.places) 510 (holding (Some c))) ≡ true
   unfolding holding content_bytes
   tail_is =
       let n : ℕ = length c.places in
@@ -286,7 +286,7 @@ module _ (issue : ℕ) (c : Content) (s : Sound issue c) where
       ∙ get_or-append-add f z m 0
       ∙ get_or-replicate (504 - 4 * n) m 0 0 (omega arith))
 
-  pub content_used : Used issue (holding (some c))
+  pub content_used : Used issue (holding (Some c))
   content_used =
       record {
         check = checked_is;
@@ -300,18 +300,18 @@ module _ (issue : ℕ) (c : Content) (s : Sound issue c) where
 
 -- the bytes of a sound content are a good block, which says that content
 pub content_forth : (issue : ℕ) (c : Content) → is_content issue c ≡ true
-    → (content_of (holding (some c)) ≡ c) × (is_used issue (holding (some c)) ≡ true)
+    → (content_of (holding (Some c)) ≡ c) × (is_used issue (holding (Some c)) ≡ true)
 content_forth issue c e =
     let s = sound_true issue c e in
-    (content_said issue c s, used_is issue (holding (some c)) (content_used issue c s))
+    (content_said issue c s, used_is issue (holding (Some c)) (content_used issue c s))
 
 -- a block holds one content
-pub holding_one : (issue : ℕ) (c d : Content) → is_content issue c ≡ true → is_content issue d ≡ true → holding (some c) ≡ holding (some d) → c ≡ d
+pub holding_one : (issue : ℕ) (c d : Content) → is_content issue c ≡ true → is_content issue d ≡ true → holding (Some c) ≡ holding (Some d) → c ≡ d
 holding_one issue c d p q e = sym (content_forth issue c p).0 ∙ ap content_of e ∙ (content_forth issue d q).0
 
 -- ---- an unused block
 -- it passes the test
-pub unused_forth : is_unused (holding none) ≡ true
+pub unused_forth : is_unused (holding None) ≡ true
 unfolding is_unused holding
 unused_forth =
     let z : List ℕ = replicate block_length 0 in
@@ -320,7 +320,7 @@ unused_forth =
     rw (sealed_checked z n) (slice_zero 0 510 (sealed z) (omega arith) (λ i h g. sealed_at z i g ∙ get_or-replicate block_length i 0 0 (omega arith)))
 
 -- and nothing else passes it
-pub unused_back : (b : List ℕ) → length b ≡ block_length → Bytes b → is_unused b ≡ true → holding none ≡ b
+pub unused_back : (b : List ℕ) → length b ≡ block_length → Bytes b → is_unused b ≡ true → holding None ≡ b
 unfolding is_unused holding
 unused_back b len y e =
     sym (sealed_form b len y 0 (omega arith) (and_left (checked b) (all_zero (slice 0 510 b)) e) (and_right (checked b) (all_zero (slice 0 510 b)) e))

@@ -1,7 +1,7 @@
 -- An unused block that is made, and a book whose blocks all are unused. Assumes nothing.
 use mathlib.Core.Path.{◌≡◌, sym, ap, ◌∙◌}
 use mathlib.Core.List.{List}
-use mathlib.Core.Option.{none}
+use Rattle.std.specs.Prelude.{None}
 use Prim.Native.Nat.{ℕ, ◌+◌, ◌*◌, ◌≤◌, ◌<◌}
 use native.Mathlib.Nat.{ne_of_lt, ne_of_gt}
 use native.Mathlib.Omega.{arith}
@@ -15,18 +15,18 @@ use Rattle.blocks.specs.Content.{holding}
 use Rattle.blocks.proofs.Blocks.{block_length_lem, byte_of, set_block, put_same_block, put_other_block}
 
 -- ---- one that is made
-none_is : set (replicate block_length 0) 510 1 ≡ holding none
+none_is : set (replicate block_length 0) 510 1 ≡ holding None
 unfolding holding
 none_is = sym (sealed_zero (replicate block_length 0) (λ i h. get_or-replicate block_length i 0 0 h))
 
-pub none_made : (b₀ b₁ : List ℕ) → length b₀ ≡ block_length → b₁ ≡ replicate (length b₀) 0 → set b₁ 510 1 ≡ holding none
+pub none_made : (b₀ b₁ : List ℕ) → length b₀ ≡ block_length → b₁ ≡ replicate (length b₀) 0 → set b₁ 510 1 ≡ holding None
 none_made b₀ b₁ l e = ap (λ (b : List ℕ). set b 510 1) (e ∙ ap (λ (n : ℕ). replicate n 0) l) ∙ none_is
 
 -- ---- a book whose first k blocks are unused ones, and the others zeros
 pub record Emptied (book : List ℕ) (k : ℕ) : Type 0 where
   pub left : k ≤ block_count
   pub long : length book ≡ book_length
-  pub unused : (j : ℕ) → j < k → block_of j book ≡ holding none
+  pub unused : (j : ℕ) → j < k → block_of j book ≡ holding None
   pub zeros : (j : ℕ) → k ≤ j → j < block_count → block_of j book ≡ replicate block_length 0
 
 pub emptied_start : (book₀ book : List ℕ) → length book₀ ≡ book_length → book ≡ replicate (length book₀) 0 → Emptied book 0
@@ -48,7 +48,7 @@ module _ (book : List ℕ) (k : ℕ) (v : Emptied book k) where
       let b : List ℕ = set (block_of k book) 510 1 in
       let e = set_block k 510 1 book (omega arith) (omega arith) in
       let w : length b ≡ 512 = length-set (block_of k book) 510 1 ∙ block_length_lem k book (omega arith) in
-      let made : b ≡ holding none = ap (λ (l : List ℕ). set l 510 1) (v.zeros k (omega arith) h) ∙ none_is in
+      let made : b ≡ holding None = ap (λ (l : List ℕ). set l 510 1) (v.zeros k (omega arith) h) ∙ none_is in
       record {
         left = omega arith;
         long = length-set book (k * 512 + 510) 1 ∙ long;
@@ -59,5 +59,5 @@ module _ (book : List ℕ) (k : ℕ) (v : Emptied book k) where
         zeros = λ j g m. ap (block_of j) e ∙ put_other_block 49 k book b h long w j m (ne_of_gt (omega arith)) ∙ v.zeros j (omega arith) m;
       }
 
-  pub emptied_done : block_count ≤ k → (length book ≡ book_length) × ((j : ℕ) → j < block_count → block_of j book ≡ holding none)
+  pub emptied_done : block_count ≤ k → (length book ≡ book_length) × ((j : ℕ) → j < block_count → block_of j book ≡ holding None)
   emptied_done h = (v.long, λ j g. v.unused j (omega arith))

@@ -1,7 +1,7 @@
 -- A content's bytes stored in a block, and its numbers read from one. Assumes nothing.
 use mathlib.Core.Path.{◌≡◌, refl, sym, ap, ap₂, ◌∙◌}
 use mathlib.Core.List.{List, [], ◌∷◌, ◌++◌, append_assoc, append-nil}
-use mathlib.Core.Option.{some}
+use Rattle.std.specs.Prelude.{Some}
 use Prim.Native.Nat.{ℕ, zero, suc, ◌+◌, ◌*◌, ◌-◌, ◌≤◌, ◌<◌}
 use native.Mathlib.Numerals.{add-one}
 use native.Mathlib.Omega.{arith}
@@ -130,7 +130,7 @@ content_stored p places h =
 
 pub content_made : (b₀ b₁ b₂ b₃ b₄ : List ℕ) (p : ℕ) (places : List ℕ) → length b₀ ≡ block_length → length places ≤ capacity
     → b₁ ≡ replicate (length b₀) 0 → b₂ ≡ sets b₁ 0 (bytes32 p) → b₃ ≡ sets (set b₂ 4 (length places)) 8 (flat bytes32 places) → b₄ ≡ sealed b₃
-    → b₄ ≡ holding (some (record { purge = p; places = places }))
+    → b₄ ≡ holding (Some (record { purge = p; places = places }))
 unfolding holding
 content_made b₀ b₁ b₂ b₃ b₄ p places l h e₁ e₂ e₃ e₄ =
     e₄

@@ -1,6 +1,6 @@
 -- Document 01, "The book": what a block of the three kinds holds.
 use Rattle.std.specs.Prelude.{ℕ, ◌*◌, ◌-◌, List, [], ◌∷◌, ◌++◌, Bool, ◌&&◌, length, drop, get_or, replicate}
-use Rattle.std.proofs.Math.Option.{Option, none, some}
+use Rattle.std.specs.Prelude.{Option, None, Some}
 use Rattle.calendar.specs.Purge.{is_purge}
 use Rattle.codes.specs.Places.{is_set}
 use Rattle.codes.specs.Block.{Content}
@@ -15,8 +15,8 @@ content_bytes c =
 
 -- what a block holds: a content, or it is unused
 unfoldable pub holding : Option Content → List ℕ
-holding none = sealed (replicate block_length 0)
-holding (some c) = sealed (content_bytes c)
+holding None = sealed (replicate block_length 0)
+holding (Some c) = sealed (content_bytes c)
 
 -- what the bytes of a used block say
 unfoldable pub content_of : List ℕ → Content

@@ -2,7 +2,7 @@
 #![tactic(auto)]
 
 ghost use Rattle.std.specs.Prelude.{◌≡◌, ℕ, ◌+◌, ◌*◌, ◌≤◌, ◌<◌, length, get_or, take, drop};
-ghost use Rattle.std.proofs.Math.Option.{none, some};
+ghost use Rattle.std.specs.Prelude.{None, Some};
 ghost use Rattle.std.proofs.lemmas.List.Edits.{sets};
 ghost use Rattle.calendar.specs.Window.{WindowOf};
 ghost use Rattle.codes.specs.Places.{capacity, ascends};
@@ -105,7 +105,7 @@ pub fn copy_block(book: &mut [u8], i: usize, j: usize)
 // Makes a block an unused one: zeros, and their check, which is 1.
 fn unuse(b: &mut [u8])
     requires { length b.old ≡ block_length }
-    ensures { b.new ≡ holding none }
+    ensures { b.new ≡ holding None }
 {
     checks::clear(b);
     b[510] = 1;
@@ -114,7 +114,7 @@ fn unuse(b: &mut [u8])
 // Makes every block of a book an unused one.
 pub fn clear_book(book: &mut [u8])
     requires { length book.old ≡ book_length }
-    ensures { (length book.new ≡ book_length) × ((k : ℕ) → k < block_count → block_of k book.new ≡ holding none) }
+    ensures { (length book.new ≡ book_length) × ((k : ℕ) → k < block_count → block_of k book.new ≡ holding None) }
 {
     checks::clear(book);
     let mut k: usize = 0;
@@ -127,7 +127,7 @@ pub fn clear_book(book: &mut [u8])
 // Makes block k of a book an unused one.
 pub fn clear_block(book: &mut [u8], k: usize)
     requires { (length book.old ≡ book_length) × (k < block_count) }
-    ensures { book.new ≡ put_block k (holding none) book.old }
+    ensures { book.new ≡ put_block k (holding None) book.old }
 {
     let a = k * 512;
     let e = k * 512 + 512;
@@ -226,7 +226,7 @@ fn put_numbers(b: &mut [u8], places: &[u32])
 
 fn put_content(b: &mut [u8], purge: u32, places: &[u32])
     requires { (length b.old ≡ block_length) × (length places.now ≤ capacity) }
-    ensures { b.new ≡ holding (some (record { purge = purge; places = places.now })) }
+    ensures { b.new ≡ holding (Some (record { purge = purge; places = places.now })) }
 {
     checks::clear(b);
     put_number(b, 0, purge);
@@ -238,7 +238,7 @@ fn put_content(b: &mut [u8], purge: u32, places: &[u32])
 // Makes block k of a book a used one with this content.
 pub fn store(book: &mut [u8], k: usize, purge: u32, places: &[u32])
     requires { (length book.old ≡ book_length) × (k < block_count) × (length places.now ≤ capacity) }
-    ensures { book.new ≡ put_block k (holding (some (record { purge = purge; places = places.now }))) book.old }
+    ensures { book.new ≡ put_block k (holding (Some (record { purge = purge; places = places.now }))) book.old }
 {
     let a = k * 512;
     let e = k * 512 + 512;

@@ -4,7 +4,7 @@ use native.Mathlib.Omega.{arith}
 use mathlib.Core.Path.{◌≡◌, refl, sym, ap, ◌∙◌}
 use mathlib.Core.List.{List, [], ◌∷◌}
 use mathlib.Core.Bool.{Bool, true, false, cond}
-use mathlib.Core.Option.{Option, none, some}
+use Rattle.std.specs.Prelude.{Option, None, Some}
 use lib.ListN.{length, drop, length-drop}
 use borrow.Author.Tests.{eqb-true}
 use Rattle.laws.proofs.Tests.{by, apart, and_left}
@@ -38,8 +38,8 @@ use Rattle.segments.proofs.Seeking.{body_of}
 
 -- ---- the office line is the first line that is one or closes the block, if it does not close it
 first_storm : List Line → Answer (Option StormName)
-first_storm [] = ok none
-first_storm (l ∷ ls) = cond (closes l.body) (ok none) (storm_said l (storm_of l.body))
+first_storm [] = ok None
+first_storm (l ∷ ls) = cond (closes l.body) (ok None) (storm_said l (storm_of l.body))
 
 office_is : (ls : List Line) → office_storm (from_first is_office (up_to_first closes ls)) ≡ first_storm (from_first office_or_close ls)
 unfolding from_first up_to_first first_storm
@@ -66,13 +66,13 @@ module _ (s : List ℕ) (from : ℕ) (f : Found) (ef : found_lines s f ≡ from_
     a = l.start
 
     -- it is the line that starts where it does
-    here : span_at s a ≡ some l
+    here : span_at s a ≡ Some l
     here = let v : LineFrom s from l = rw q at i in v.is
 
     body_is : (line_at s a).body ≡ line
     body_is = sym (body_of s a (lined.Line l) (sym here) l refl line en)
 
-    first_is : office_storm (from_first is_office (up_to_first closes (lines_on s from))) ≡ cond t (ok none) (storm_said (line_at s a) (storm_of line))
+    first_is : office_storm (from_first is_office (up_to_first closes (lines_on s from))) ≡ cond t (ok None) (storm_said (line_at s a) (storm_of line))
     unfolding first_storm
     first_is = office_is (lines_on s from) ∙ rw (← ef, q, lines_step s a (span_inside s l here), body_is, ← et)
 

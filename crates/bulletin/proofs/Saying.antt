@@ -4,8 +4,9 @@ use native.Mathlib.Nat.{zero-add}
 use native.Mathlib.Omega.{arith}
 use mathlib.Core.Path.{◌≡◌, refl, sym, ap, ap₂, ◌∙◌, subst}
 use mathlib.Core.List.{List, [], ◌∷◌, map}
-use mathlib.Core.Option.{Option, none, some}
-use lib.ListN.{length, take, drop, get_elem?, length-map}
+use Rattle.std.specs.Prelude.{Option, None, Some}
+use lib.ListN.{length, take, drop, length-map}
+use Rattle.std.specs.Prelude.{slice_get}
 use lib.Seq.{length-take-le}
 use lib.Dec.{leb}
 use borrow.Author.Tests.{leb-true}
@@ -118,8 +119,8 @@ contents_said text year month b =
 
 -- at most 120 places
 dated_few : (start at : ℕ) (ps : List ℕ) (o : Option ℕ) (c : Content) → dated start at ps o ≡ ok c → length c.places ≤ capacity
-dated_few start at ps none c e = apart cc
-dated_few start at ps (some t) c e =
+dated_few start at ps None c e = apart cc
+dated_few start at ps (Some t) c e =
     by (leb (length ps) capacity)
     (λ y.
     let w : ok (record { purge = t; places = ps }) ≡ ok c = rw y at e in
@@ -128,8 +129,8 @@ dated_few start at ps (some t) c e =
     (λ y. let w : refused too_many_places start ≡ ok c = rw y at e in apart cc)
 
 in_few : (issue start : ℕ) (w : Option ℕ) (r : Read) (c : Content) → content_in issue start w r ≡ ok c → length c.places ≤ capacity
-in_few issue start none (block ps s at) c e = dated_few start at ps (purge_of issue s) c e
-in_few issue start (some y) (block ps s at) c e = apart cc
+in_few issue start None (block ps s at) c e = dated_few start at ps (purge_of issue s) c e
+in_few issue start (Some y) (block ps s at) c e = apart cc
 in_few issue start w (wrong_at place) c e = apart cc
 
 pub content_few : (text : List ℕ) (issue start : ℕ) (c : Content) → content_at text issue start ≡ ok c → length c.places ≤ capacity
@@ -166,7 +167,7 @@ module _ (text : List ℕ) (issue : ℕ) (gs : List Segment) (a : All (Says text
 
   module _ (few : length gs ≤ 8) (long : length ks₀ ≡ 960) where
     -- where there is room for all, each is found again
-    pub part_is : (k : ℕ) (g : Segment) → get_elem? gs k ≡ some g → take (length g.content.places) (drop (capacity * k) (keep_each places_of 0 gs ks₀)) ≡ g.content.places
+    pub part_is : (k : ℕ) (g : Segment) → slice_get gs k ≡ Some g → take (length g.content.places) (drop (capacity * k) (keep_each places_of 0 gs ks₀)) ≡ g.content.places
     part_is k g e = kept_part places_of gs ks₀ (omega arith) k g e (content_few text issue g.start g.content (all_found k a e))
 
     handed_is : (ks : List ℕ) → handed_on (kept_from text issue 0 (map seen gs) ks₀) (map seen gs) ks ≡ keep_each places_of 0 gs ks

@@ -1,6 +1,6 @@
 -- Serves the code: the rest of the order of reading, from the storm on and from the segments on, and what a function that reads on from there promises.
 use Rattle.std.specs.Prelude.{ℕ, ◌≡◌, List, [], ◌∷◌, length}
-use Rattle.std.proofs.Math.Option.{Option}
+use Rattle.std.specs.Prelude.{Option}
 use Rattle.refusal.specs.Numbers.{no_segment}
 use Rattle.refusal.specs.Answer.{Answer, ok, refused, and_then}
 use Rattle.refusal.specs.declared.Refusal.{Refusal}

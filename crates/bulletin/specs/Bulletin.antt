@@ -1,6 +1,6 @@
 -- Document 01, "Numbered refusals": the order of reading a bulletin.
 use Rattle.std.specs.Prelude.{ℕ, List, [], ◌∷◌, Bool, cond, ◌&&◌, length, leb}
-use Rattle.std.proofs.Math.Option.{Option, none, some}
+use Rattle.std.specs.Prelude.{Option, None, Some}
 use Rattle.refusal.specs.Numbers.{wrong_length, wrong_heading, wrong_identifier, wrong_time}
 use Rattle.refusal.specs.Answer.{Answer, ok, refused, must, and_then}
 use Rattle.lines.specs.Lines.{Line, lines_of}
@@ -22,8 +22,8 @@ is_length text = leb 1 (length text) && leb (length text) text_most
 
 -- line 1
 abbrev pub headed : Option Heading → Answer Heading
-headed none = refused wrong_heading 0
-headed (some h) = ok h
+headed None = refused wrong_heading 0
+headed (Some h) = ok h
 
 abbrev pub line1 : List Line → Answer Heading
 line1 [] = refused wrong_heading 0
@@ -36,8 +36,8 @@ line2 stop (l ∷ ls) = cond (is_identifier l.body) (ok l.start) (refused wrong_
 
 -- "The issue day must exist in its month."
 abbrev pub issued : Option ℕ → Answer ℕ
-issued none = refused wrong_time 0
-issued (some minute) = ok minute
+issued None = refused wrong_time 0
+issued (Some minute) = ok minute
 
 -- what a bulletin says
 pub record Bulletin : Type 0 where

@@ -6,7 +6,7 @@ use Rattle.calendar.specs.Calendar.{is_issue_month, minute_of}
 use Rattle.heading.specs.Heading.{Heading}
 use Rattle.heading.specs.Storm.{StormName}
 use Rattle.heading.specs.Paper.{paper_heading, paper_storm}
-use Rattle.std.proofs.Math.Option.{Option}
+use Rattle.std.specs.Prelude.{Option}
 use Rattle.refusal.specs.Answer.{Answer, ok, must, and_then, paper_refusal}
 use Rattle.lines.specs.Lines.{Line, lines_of}
 use Rattle.segments.specs.Search.{lines_after}

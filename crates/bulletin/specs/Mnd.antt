@@ -1,6 +1,6 @@
 -- Document 01, "Text and lines": the MND block, its office line and the storm.
 use Rattle.std.specs.Prelude.{◌+◌, ◌-◌, List, [], ◌∷◌, length}
-use Rattle.std.proofs.Math.Option.{Option, none, some}
+use Rattle.std.specs.Prelude.{Option, None, Some}
 use Rattle.refusal.specs.Numbers.{wrong_storm}
 use Rattle.refusal.specs.Answer.{Answer, ok, refused}
 use Rattle.lines.specs.Lines.{Line, blank}
@@ -26,12 +26,12 @@ office_lines lines = from_first is_office (mnd_lines lines)
 
 -- | 10 | storm identifier | its start |
 abbrev pub storm_said : Line → StormSaid → Answer (Option StormName)
-storm_said l storm.no_storm = ok none
-storm_said l (storm.storm name) = ok (some name)
+storm_said l storm.no_storm = ok None
+storm_said l (storm.storm name) = ok (Some name)
 storm_said l storm.refused_storm = refused wrong_storm (l.start + (length l.body - 8))
 
 abbrev pub office_storm : List Line → Answer (Option StormName)
-office_storm [] = ok none
+office_storm [] = ok None
 office_storm (l ∷ ls) = storm_said l (storm_of l.body)
 
 unfoldable pub storm_in : List Line → Answer (Option StormName)

@@ -1,6 +1,6 @@
 -- The reader's answer: what a bulletin says, with each segment's places in the text, purge minute and count.
 use Rattle.std.specs.Prelude.{ℕ, ◌≡◌, List, [], map}
-use Rattle.std.proofs.Math.Option.{Option}
+use Rattle.std.specs.Prelude.{Option}
 use Rattle.refusal.specs.Answer.{Answer, ok, no, paper_refusal}
 use Rattle.heading.specs.Heading.{Heading}
 use Rattle.heading.specs.Storm.{StormName}

@@ -4,7 +4,7 @@ use native.Mathlib.Omega.{arith}
 use mathlib.Core.Path.{◌≡◌, refl, sym, ap, ◌∙◌}
 use mathlib.Core.Bool.{Bool, true, false, cond, ◌&&◌}
 use mathlib.Core.List.{List, [], ◌∷◌}
-use mathlib.Core.Option.{Option, none, some}
+use Rattle.std.specs.Prelude.{Option, None, Some}
 use lib.Dec.{leb, ltb}
 use borrow.Author.Tests.{leb-true, ltb-true, lt-ltb, le-ltb, le-leb, lt-leb, eq-eqb, eqb-true}
 use Rattle.laws.specs.Lists.{All, all_nil, all_cons}
@@ -79,7 +79,7 @@ module _ (k t : ℕ) (f : Falls t k) where
   after_back = omega (arith, minute_after k (t - start_of k), f.low)
 
   -- its date
-  pub date_is : date_of t ≡ some (record { year = year_of k; month = month_of_year k; stamp = stamp_after (t - start_of k) })
+  pub date_is : date_of t ≡ Some (record { year = year_of k; month = month_of_year k; stamp = stamp_after (t - start_of k) })
   unfolding date_of
   date_is = rw (month_is t k f)
 
@@ -150,7 +150,7 @@ record Dates (d : Date) (t : ℕ) : Type 0 where
   day : d.stamp.day ≤ days_in (month_number d.year d.month)
   here : minute_in (month_number d.year d.month) d.stamp ≡ t
 
-minute_true : (d : Date) (t : ℕ) → minute_of d ≡ some t → Dates d t
+minute_true : (d : Date) (t : ℕ) → minute_of d ≡ Some t → Dates d t
 unfolding minute_of
 minute_true d t e =
     let k = month_number d.year d.month in
@@ -159,23 +159,23 @@ minute_true d t e =
     let c = day_exists k d.stamp in
     by (a && b && c)
     (λ q.
-    let f : some (minute_in k d.stamp) ≡ some t = rw q at e in
+    let f : Some (minute_in k d.stamp) ≡ Some t = rw q at e in
     record {
       month = month_true d.year d.month (and_left a b (and_left (a && b) c q));
       time = and_right a b (and_left (a && b) c q);
       day = leb-true d.stamp.day (days_in k) (and_right (a && b) c q);
       here = cc;
     })
-    (λ q. let f : ◌≡◌ {A = Option ℕ} none (some t) = rw q at e in apart cc)
+    (λ q. let f : ◌≡◌ {A = Option ℕ} None (Some t) = rw q at e in apart cc)
 
-minute_is_lem : (d : Date) (t : ℕ) → Dates d t → minute_of d ≡ some t
+minute_is_lem : (d : Date) (t : ℕ) → Dates d t → minute_of d ≡ Some t
 unfolding minute_of
 minute_is_lem d t h =
     let k = month_number d.year d.month in
-    rw (known_month d.year d.month h.month, h.time, le-leb d.stamp.day (days_in k) h.day) (ap some h.here)
+    rw (known_month d.year d.month h.month, h.time, le-leb d.stamp.day (days_in k) h.day) (ap Some h.here)
 
 -- a date's minute stands before the calendar's end
-pub minute_low : (d : Date) (t : ℕ) → minute_of d ≡ some t → t < 68418720
+pub minute_low : (d : Date) (t : ℕ) → minute_of d ≡ Some t → t < 68418720
 minute_low d t e =
     let h = minute_true d t e in
     let k = month_number d.year d.month in
@@ -186,7 +186,7 @@ date_path : {y y' m m' : ℕ} {s s' : Stamp} → y ≡ y' → m ≡ m' → s ≡
 date_path e f g = λ i. record { year = e i; month = f i; stamp = g i }
 
 -- a date is what its minute gives back
-pub minute_date : (d : Date) (t : ℕ) → minute_of d ≡ some t → date_of t ≡ some d
+pub minute_date : (d : Date) (t : ℕ) → minute_of d ≡ Some t → date_of t ≡ Some d
 minute_date d t e =
     let h = minute_true d t e in
     let m = h.month in
@@ -195,7 +195,7 @@ minute_date d t e =
     let year : year_of k ≡ d.year = omega arith in
     let month : month_of_year k ≡ d.month = omega arith in
     (rw h.here at back)
-    ∙ ap some (date_path year month ((rw (← h.here)) ∙ stamp_in k d.stamp h.time h.day))
+    ∙ ap Some (date_path year month ((rw (← h.here)) ∙ stamp_in k d.stamp h.time h.day))
 
 -- the date of month k, so many minutes after its start, is of the calendar
 dates_is : (t k : ℕ) → Falls t k → Dates (record { year = year_of k; month = month_of_year k; stamp = stamp_after (t - start_of k) }) t
@@ -209,32 +209,32 @@ dates_is t k f =
     }
 
 -- a minute before the calendar's end has a date
-pub date_some : (t : ℕ) → t < 68418720 → (d : Date) × (date_of t ≡ some d)
+pub date_some : (t : ℕ) → t < 68418720 → (d : Date) × (date_of t ≡ Some d)
 date_some t h = go (month_of t) refl
   where
-    go : (o : Option ℕ) → month_of t ≡ o → (d : Date) × (date_of t ≡ some d)
-    go none e = impossible (omega (arith, month_none t e))
-    go (some k) e = (record { year = year_of k; month = month_of_year k; stamp = stamp_after (t - start_of k) }, date_is k t (month_some t k e))
+    go : (o : Option ℕ) → month_of t ≡ o → (d : Date) × (date_of t ≡ Some d)
+    go None e = impossible (omega (arith, month_none t e))
+    go (Some k) e = (record { year = year_of k; month = month_of_year k; stamp = stamp_after (t - start_of k) }, date_is k t (month_some t k e))
 
 -- a minute is what its date gives back
-pub date_minute : (d : Date) (t : ℕ) → date_of t ≡ some d → minute_of d ≡ some t
+pub date_minute : (d : Date) (t : ℕ) → date_of t ≡ Some d → minute_of d ≡ Some t
 unfolding date_of
 date_minute d t e = go (month_of t) refl e
   where
-    go : (o : Option ℕ) → month_of t ≡ o → date_in t o ≡ some d → minute_of d ≡ some t
-    go none q h = apart cc
-    go (some k) q h =
+    go : (o : Option ℕ) → month_of t ≡ o → date_in t o ≡ Some d → minute_of d ≡ Some t
+    go None q h = apart cc
+    go (Some k) q h =
         let same : record { year = year_of k; month = month_of_year k; stamp = stamp_after (t - start_of k) } ≡ d = cc in
         rw (← same) (minute_is_lem _ t (dates_is t k (month_some t k q)))
 
 -- a date's DDHHMM is in its ranges
-pub date_time : (d : Date) (t : ℕ) → date_of t ≡ some d → is_time d.stamp ≡ true
+pub date_time : (d : Date) (t : ℕ) → date_of t ≡ Some d → is_time d.stamp ≡ true
 unfolding date_of
 date_time d t e = go (month_of t) refl e
   where
-    go : (o : Option ℕ) → month_of t ≡ o → date_in t o ≡ some d → is_time d.stamp ≡ true
-    go none q h = apart cc
-    go (some k) q h =
+    go : (o : Option ℕ) → month_of t ≡ o → date_in t o ≡ Some d → is_time d.stamp ≡ true
+    go None q h = apart cc
+    go (Some k) q h =
         let same : record { year = year_of k; month = month_of_year k; stamp = stamp_after (t - start_of k) } ≡ d = cc in
         rw (← same) (time_is (stamp_after (t - start_of k)) (after_time k t (month_some t k q)))
 
@@ -245,18 +245,18 @@ fits issue s j = day_exists j s && not_too_early issue (minute_in j s)
 
 -- the first of some months that has one decides
 first_step : (issue : ℕ) (s : Stamp) (j : ℕ) (js : List ℕ)
-    → first_of issue (minutes_with s (j ∷ js)) ≡ cond (fits issue s j) (some (minute_in j s)) (first_of issue (minutes_with s js))
+    → first_of issue (minutes_with s (j ∷ js)) ≡ cond (fits issue s j) (Some (minute_in j s)) (first_of issue (minutes_with s js))
 unfolding first_of minutes_with
 first_step issue s j js = by (day_exists j s) (λ e. rw e) (λ e. rw e)
 
 -- no minute under an issue past the last year, or of a DDHHMM out of its ranges
-pub purge_no : (issue : ℕ) (s : Stamp) → (ltb issue (start_of issue_months) && is_time s) ≡ false → purge_of issue s ≡ none
+pub purge_no : (issue : ℕ) (s : Stamp) → (ltb issue (start_of issue_months) && is_time s) ≡ false → purge_of issue s ≡ None
 unfolding purge_of
 purge_no issue s h = go (month_of issue) refl
   where
-    go : (o : Option ℕ) → month_of issue ≡ o → purge_under o issue s ≡ none
-    go none q = refl
-    go (some k) q = let same = issue_test issue k (month_some issue k q) in rw (← same, h)
+    go : (o : Option ℕ) → month_of issue ≡ o → purge_under o issue s ≡ None
+    go None q = refl
+    go (Some k) q = let same = issue_test issue k (month_some issue k q) in rw (← same, h)
 
 -- not too early is at most 1,440 minutes before the issue
 early_true : (issue t : ℕ) → not_too_early issue t ≡ true → issue ≤ t + 1440
@@ -336,25 +336,25 @@ module _ (issue a : ℕ) (s : Stamp) (early : Falls (issue - 1440) a) (low : iss
       (λ h. rw (le-ltb issue (start_of (suc a)) h) (next_month_lem h))
 
   -- the first month decides, if it can
-  pub search_first : fits issue s a ≡ true → purge_of issue s ≡ some (minute_in a s)
+  pub search_first : fits issue s a ≡ true → purge_of issue s ≡ Some (minute_in a s)
   search_first q = searched ∙ first_step issue s a rest ∙ rw q
 
   module _ (n : fits issue s a ≡ false) where
     search_on : purge_of issue s
-        ≡ cond (day_exists (suc a) s) (some (minute_in (suc a) s)) (first_of issue (minutes_with s (cond (ltb issue (start_of (suc a))) [] (suc (suc a) ∷ []))))
+        ≡ cond (day_exists (suc a) s) (Some (minute_in (suc a) s)) (first_of issue (minutes_with s (cond (ltb issue (start_of (suc a))) [] (suc (suc a) ∷ []))))
     search_on = searched ∙ first_step issue s a rest ∙ rw n (first_step issue s (suc a) _ ∙ rw (later (suc a) (omega arith)))
 
     -- else the second, if it has the day
-    pub search_second : day_exists (suc a) s ≡ true → purge_of issue s ≡ some (minute_in (suc a) s)
+    pub search_second : day_exists (suc a) s ≡ true → purge_of issue s ≡ Some (minute_in (suc a) s)
     search_second q = search_on ∙ rw q
 
     module _ (m : day_exists (suc a) s ≡ false) where
       -- else there is no third month where the issue is of the first
-      pub search_end : issue < start_of (suc a) → purge_of issue s ≡ none
+      pub search_end : issue < start_of (suc a) → purge_of issue s ≡ None
       unfolding first_of minutes_with
       search_end h = search_on ∙ rw (m, lt-ltb issue (start_of (suc a)) h)
 
-      search_last : start_of (suc a) ≤ issue → purge_of issue s ≡ cond (day_exists (suc (suc a)) s) (some (minute_in (suc (suc a)) s)) none
+      search_last : start_of (suc a) ≤ issue → purge_of issue s ≡ cond (day_exists (suc (suc a)) s) (Some (minute_in (suc (suc a)) s)) None
       unfolding first_of minutes_with
       search_last h =
           search_on
@@ -362,10 +362,10 @@ module _ (issue a : ℕ) (s : Stamp) (early : Falls (issue - 1440) a) (low : iss
           (first_step issue s (suc (suc a)) [] ∙ rw (later (suc (suc a)) (omega arith)))
 
       -- and where it is of the second, the third decides
-      pub search_third : start_of (suc a) ≤ issue → day_exists (suc (suc a)) s ≡ true → purge_of issue s ≡ some (minute_in (suc (suc a)) s)
+      pub search_third : start_of (suc a) ≤ issue → day_exists (suc (suc a)) s ≡ true → purge_of issue s ≡ Some (minute_in (suc (suc a)) s)
       search_third h q = search_last h ∙ rw q
 
-      pub search_gone : start_of (suc a) ≤ issue → day_exists (suc (suc a)) s ≡ false → purge_of issue s ≡ none
+      pub search_gone : start_of (suc a) ≤ issue → day_exists (suc (suc a)) s ≡ false → purge_of issue s ≡ None
       search_gone h q = search_last h ∙ rw q
 
 -- ---- the purge minute
@@ -398,29 +398,29 @@ module _ (issue t k : ℕ) (s : Stamp) (f : Falls issue k) (last : k < issue_mon
         from = omega (arith, early_true issue (minute_in j s) (and_right a b q));
       }
 
-  purge_in_lem : (js : List ℕ) → All (λ (j : ℕ). j ≤ suc k) js → first_of issue (minutes_with s js) ≡ some t → Purges issue s t
+  purge_in_lem : (js : List ℕ) → All (λ (j : ℕ). j ≤ suc k) js → first_of issue (minutes_with s js) ≡ Some t → Purges issue s t
   unfolding first_of minutes_with
   purge_in_lem [] near e = apart cc
   purge_in_lem (j ∷ js) (all_cons near more) e =
-      let d : cond (fits issue s j) (some (minute_in j s)) (first_of issue (minutes_with s js)) ≡ some t = sym (first_step issue s j js) ∙ e in
+      let d : cond (fits issue s j) (Some (minute_in j s)) (first_of issue (minutes_with s js)) ≡ Some t = sym (first_step issue s j js) ∙ e in
       by (fits issue s j)
       (λ q.
-      let g : some (minute_in j s) ≡ some t = rw q at d in
+      let g : Some (minute_in j s) ≡ Some t = rw q at d in
       let here : minute_in j s ≡ t = cc in
       purge_at_lem j near q here)
       (λ q. purge_in_lem js more (rw q at d))
 
 -- what a purge minute is, and whence
-pub purge_true : (issue : ℕ) (s : Stamp) (t : ℕ) → purge_of issue s ≡ some t → Purges issue s t
+pub purge_true : (issue : ℕ) (s : Stamp) (t : ℕ) → purge_of issue s ≡ Some t → Purges issue s t
 purge_true issue s t e =
     let x = ltb issue (start_of issue_months) in
     by (x && is_time s)
     (λ u. go (ltb-true issue (start_of issue_months) (and_left x (is_time s) u)) (and_right x (is_time s) u) (month_of (issue - 1440)) refl)
-    (λ u. let g : ◌≡◌ {A = Option ℕ} none (some t) = sym (purge_no issue s u) ∙ e in apart cc)
+    (λ u. let g : ◌≡◌ {A = Option ℕ} None (Some t) = sym (purge_no issue s u) ∙ e in apart cc)
   where
     go : issue < start_of issue_months → is_time s ≡ true → (o : Option ℕ) → month_of (issue - 1440) ≡ o → Purges issue s t
-    go low time none q = impossible (omega (arith, month_none (issue - 1440) q, start_issues))
-    go low time (some a) q =
+    go low time None q = impossible (omega (arith, month_none (issue - 1440) q, start_issues))
+    go low time (Some a) q =
         let early = month_some (issue - 1440) a q in
         by_order issue (start_of (suc a))
         (λ h.
@@ -439,10 +439,10 @@ falls_purge issue s t p = rw p.here at (falls_in p.at s p.time p.day (omega (ari
 -- the DDHHMM of a minute's date
 pub record Stamped (t : ℕ) (s : Stamp) : Type 0 where
   pub date : Date
-  pub dated : date_of t ≡ some date
+  pub dated : date_of t ≡ Some date
   pub stamp : date.stamp ≡ s
 
-module _ (issue : ℕ) (s : Stamp) (t : ℕ) (e : purge_of issue s ≡ some t) where
+module _ (issue : ℕ) (s : Stamp) (t : ℕ) (e : purge_of issue s ≡ Some t) where
   -- a purge minute is not before the issue less 1,440 minutes
   pub purge_from : issue ≤ t + 1440
   purge_from = (purge_true issue s t e).from
@@ -473,8 +473,8 @@ module _ (issue : ℕ) (s : Stamp) (t : ℕ) (e : purge_of issue s ≡ some t) w
 -- t is what the DDHHMM of its date gives under the issue
 pub record Purged (issue t : ℕ) : Type 0 where
   pub date : Date
-  pub dated : date_of t ≡ some date
-  pub given : purge_of issue date.stamp ≡ some t
+  pub dated : date_of t ≡ Some date
+  pub given : purge_of issue date.stamp ≡ Some t
   pub time : is_time date.stamp ≡ true
 
 -- a purge minute is what its own DDHHMM gives
@@ -482,12 +482,12 @@ pub purge_own : (issue t : ℕ) → is_purge issue t ≡ true → Purged issue t
 unfolding is_purge
 purge_own issue t e = go (date_of t) refl e
   where
-    own : (d : Date) (o : Option ℕ) → date_of t ≡ some d → purge_of issue d.stamp ≡ o → gives o t ≡ true → Purged issue t
-    own d none a q h = apart cc
-    own d (some m) a q h =
-        let g : purge_of issue d.stamp ≡ some t = q ∙ ap some (eqb-true m t h) in
+    own : (d : Date) (o : Option ℕ) → date_of t ≡ Some d → purge_of issue d.stamp ≡ o → gives o t ≡ true → Purged issue t
+    own d None a q h = apart cc
+    own d (Some m) a q h =
+        let g : purge_of issue d.stamp ≡ Some t = q ∙ ap Some (eqb-true m t h) in
         record { date = d; dated = a; given = g; time = purge_time issue d.stamp t g }
 
     go : (o : Option Date) → date_of t ≡ o → own_stamp issue t o ≡ true → Purged issue t
-    go none a h = apart cc
-    go (some d) a h = own d (purge_of issue d.stamp) a refl h
+    go None a h = apart cc
+    go (Some d) a h = own d (purge_of issue d.stamp) a refl h

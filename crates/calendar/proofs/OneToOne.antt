@@ -1,7 +1,7 @@
 -- One answer for each input: no two answers are one on paper. Assumes nothing.
 use Prim.Native.Nat.{ℕ}
 use mathlib.Core.Path.{◌≡◌, refl, ap}
-use mathlib.Core.Option.{Option}
+use Rattle.std.specs.Prelude.{Option}
 use Rattle.laws.proofs.Tests.{apart}
 use Rattle.laws.proofs.One.{paper_one}
 use Rattle.calendar.specs.declared.Date.{Date}

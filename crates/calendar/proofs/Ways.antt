@@ -3,7 +3,7 @@ use Prim.Native.Nat.{ℕ, suc, ◌+◌, ◌-◌, ◌*◌, ◌≤◌, ◌<◌}
 use native.Mathlib.Omega.{arith}
 use mathlib.Core.Path.{◌≡◌, sym, ap, ◌∙◌}
 use mathlib.Core.Bool.{Bool, true, false, not, cond, ◌&&◌, ◌||◌, or-true}
-use mathlib.Core.Option.{none, some}
+use Rattle.std.specs.Prelude.{None, Some}
 use lib.Dec.{leb, ltb, eqb}
 use borrow.Author.Tests.{leb-true, ltb-true, lt-ltb, le-ltb, le-leb, lt-leb, eq-eqb, eqb-true, not-true, not-false}
 use Rattle.laws.proofs.Tests.{by, by_order, impossible, and_left, and_right, same_test}
@@ -53,7 +53,7 @@ pub date_on : (t : ℕ) (m : Month) → Stands t m
     → paper_dated (dated.On (record { year = m.year; month = m.month; stamp = stamp_after (t - m.start) })) ≡ date_of t
 date_on t m st = rw (st.year, st.month, st.start) (sym (date_is st.k t st.falls))
 
-pub date_none : (t : ℕ) → month_of t ≡ none → paper_dated dated.Nothing ≡ date_of t
+pub date_none : (t : ℕ) → month_of t ≡ None → paper_dated dated.Nothing ≡ date_of t
 unfolding date_of
 date_none t q = rw q
 
@@ -117,7 +117,7 @@ module _ (issue : ℕ) (s : Stamp) (u : Bool) (eu : u ≡ is_time s) where
     usable_time = time_true s time
 
     module _ (from : ℕ) (ef : from ≡ earliest issue) where
-      pub purge_none : month_of from ≡ none → paper_moment moment.Nothing ≡ purge_of issue s
+      pub purge_none : month_of from ≡ None → paper_moment moment.Nothing ≡ purge_of issue s
       purge_none q = impossible (omega (arith, month_none from q, low, start_issues))
 
       module _ (m : Month) (st : Stands from m) (after : ℕ) (ea : after ≡ (s.day - 1) * 1440 + s.hour * 60 + s.minute) where
@@ -148,7 +148,7 @@ module _ (issue : ℕ) (s : Stamp) (u : Bool) (eu : u ≡ is_time s) where
           unfolding minute_in
           purge_second d =
               let there : minute_in (suc st.k) s ≡ m.start + after + 1440 * m.days = omega (arith, next_start) in
-              sym (search_second issue st.k s early low time none_first (rw (← next_days) (le-leb s.day n d)) ∙ ap some there)
+              sym (search_second issue st.k s early low time none_first (rw (← next_days) (le-leb s.day n d)) ∙ ap Some there)
 
           module _ (d : n < s.day) where
             none_second : day_exists (suc st.k) s ≡ false
@@ -167,7 +167,7 @@ module _ (issue : ℕ) (s : Stamp) (u : Bool) (eu : u ≡ is_time s) where
                   let there : minute_in (suc (suc st.k)) s ≡ m.start + after + 1440 * m.days + 1440 * n
                   = omega (arith, next_start, next_days, start_next (suc st.k)) in
                   let next : start_of (suc st.k) ≤ issue = omega (arith, next_start, leb-true (m.start + 1440 * m.days) issue (and_left a b g)) in
-                  sym (search_third issue st.k s early low time none_first none_second next (rw (← third_days) (and_right a b g)) ∙ ap some there)
+                  sym (search_third issue st.k s early low time none_first none_second next (rw (← third_days) (and_right a b g)) ∙ ap Some there)
 
               pub purge_gone : (leb (m.start + 1440 * m.days) issue && leb s.day l) ≡ false → paper_moment moment.Nothing ≡ purge_of issue s
               purge_gone g =
@@ -191,7 +191,7 @@ unfolding window_of
 window_late issue h = rw (le-ltb issue (start_of issue_months) (omega (arith, start_issues)))
 
 module _ (issue : ℕ) (low : issue < 68374080) (from : ℕ) (ef : from ≡ earliest issue) where
-  pub window_none : month_of from ≡ none → paper_windowed windowed.Nothing ≡ window_of issue
+  pub window_none : month_of from ≡ None → paper_windowed windowed.Nothing ≡ window_of issue
   window_none q = impossible (omega (arith, month_none from q))
 
   pub window_is : (m : Month) (st : Stands from m) (n l end : ℕ)
@@ -213,7 +213,7 @@ module _ (issue : ℕ) (low : issue < 68374080) (from : ℕ) (ef : from ≡ earl
       let k = st.k in
       let one : k + 1 ≡ suc k = omega arith in
       let two : k + 2 ≡ suc (suc k) = omega arith in
-      let found_at : month_of (issue - 1440) ≡ some k = rw ef at st.found_at in
+      let found_at : month_of (issue - 1440) ≡ Some k = rw ef at st.found_at in
       let next_days : n ≡ days_in (suc k) = after_days from m st n 1 en ∙ ap days_in one in
       let last-days : l ≡ days_in (suc (suc k)) = after_days from m st l 2 el ∙ ap days_in two in
       let second : m.start + 1440 * m.days ≡ start_of (suc k) = omega (arith, st.start, st.days, start_next k) in

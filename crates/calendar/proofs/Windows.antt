@@ -3,7 +3,7 @@ use Prim.Native.Nat.{ℕ, suc, ◌+◌, ◌-◌, ◌*◌, ◌/◌, ◌≤◌, �
 use native.Mathlib.Omega.{arith}
 use mathlib.Core.Path.{◌≡◌, refl, sym, ap, ◌∙◌}
 use mathlib.Core.Bool.{true, false, not, ◌&&◌}
-use mathlib.Core.Option.{Option, none, some}
+use Rattle.std.specs.Prelude.{Option, None, Some}
 use lib.Dec.{leb, ltb}
 use borrow.Author.Tests.{leb-true, ltb-true, lt-ltb, le-ltb, le-leb, lt-leb, leb-false, ne_eqb, eq-eqb}
 use Rattle.laws.proofs.Tests.{by, by_order, impossible, apart, same_test}
@@ -80,7 +80,7 @@ module _ (issue a : ℕ) (early : Falls (issue - 1440) a) (low : issue < start_o
         let f : Falls t a = record { low = omega (arith, early.low); high = j; known = early.known } in
         let time = time_is s (after_time a t f) in
         let here : fits issue s a ≡ true = rw (le-leb s.day (days_in a) (after_day a t f), after_back a t f, early_is issue t (omega arith)) in
-        sym (purge_is_lem issue s t (search_first issue a s early low time here ∙ ap some (after_back a t f)))
+        sym (purge_is_lem issue s t (search_first issue a s early low time here ∙ ap Some (after_back a t f)))
 
     own_second : start_of (suc a) ≤ t → t < start_of (suc (suc a)) → not (comes_first (window_at issue a) (t - start_of (suc a))) ≡ is_purge issue t
     own_second j near =
@@ -93,11 +93,11 @@ module _ (issue a : ℕ) (early : Falls (issue - 1440) a) (low : issue < start_o
         (λ y.
         rw y
         (sym (ne_eqb (minute_in a s) t (λ same. omega (arith, minute_after a over, start_next a, days_low a)))
-        ∙ own_purge issue t (suc a) (some (minute_in a s)) f (search_first issue a s early low time y)))
+        ∙ own_purge issue t (suc a) (Some (minute_in a s)) f (search_first issue a s early low time y)))
         (λ y.
         rw y
         (sym (eq-eqb (minute_in (suc a) s) t (after_back (suc a) t f))
-        ∙ own_purge issue t (suc a) (some (minute_in (suc a) s)) f
+        ∙ own_purge issue t (suc a) (Some (minute_in (suc a) s)) f
         (search_second issue a s early low time y (le-leb s.day (days_in (suc a)) (after_day (suc a) t f))))))
 
     -- the month after the issue's is the last
@@ -132,17 +132,17 @@ module _ (issue a : ℕ) (early : Falls (issue - 1440) a) (low : issue < start_o
           (λ x.
           rw x
           (sym (ne_eqb (minute_in a s) t (λ same. omega (arith, minute_after a over, start_mono (suc a) (suc (suc a)) (omega arith), start_next a, days_low a)))
-          ∙ own_purge issue t (suc (suc a)) (some (minute_in a s)) f (search_first issue a s early low time x)))
+          ∙ own_purge issue t (suc (suc a)) (Some (minute_in a s)) f (search_first issue a s early low time x)))
           (λ x.
           by (day_exists (suc a) s)
           (λ y.
           rw (x, y)
           (sym (ne_eqb (minute_in (suc a) s) t (λ same. omega (arith, minute_after (suc a) over, start_next (suc a), days_low (suc a))))
-          ∙ own_purge issue t (suc (suc a)) (some (minute_in (suc a) s)) f (search_second issue a s early low time x y)))
+          ∙ own_purge issue t (suc (suc a)) (Some (minute_in (suc a) s)) f (search_second issue a s early low time x y)))
           (λ y.
           rw (x, y)
           (sym (eq-eqb (minute_in (suc (suc a)) s) t (after_back (suc (suc a)) t f))
-          ∙ own_purge issue t (suc (suc a)) (some (minute_in (suc (suc a)) s)) f
+          ∙ own_purge issue t (suc (suc a)) (Some (minute_in (suc (suc a)) s)) f
           (search_third issue a s early low time x y next (le-leb s.day (days_in (suc (suc a))) (after_day (suc (suc a)) t f)))))))
 
     own_later : start_of (suc (suc a)) ≤ t
@@ -171,22 +171,22 @@ module _ (issue a : ℕ) (early : Falls (issue - 1440) a) (low : issue < start_o
 
 -- ---- the window of an issue
 -- within it are the issue's purge minutes, and no others
-pub window_tells : (issue : ℕ) (w : Window) → window_of issue ≡ some w → WindowOf issue w
+pub window_tells : (issue : ℕ) (w : Window) → window_of issue ≡ Some w → WindowOf issue w
 unfolding window_of
 window_tells issue w e =
     by (ltb issue (start_of issue_months))
     (λ low. go (ltb-true issue (start_of issue_months) low) (month_of (earliest issue)) refl (rw low at e))
-    (λ late. let g : ◌≡◌ {A = Option Window} none (some w) = rw late at e in apart cc)
+    (λ late. let g : ◌≡◌ {A = Option Window} None (Some w) = rw late at e in apart cc)
   where
-    go : issue < start_of issue_months → (o : Option ℕ) → month_of (earliest issue) ≡ o → window_in issue o ≡ some w → WindowOf issue w
-    go low none q h = apart cc
-    go low (some a) q h = let same : window_at issue a ≡ w = cc in rw (← same) (at_tells issue a (month_some (earliest issue) a q) low)
+    go : issue < start_of issue_months → (o : Option ℕ) → month_of (earliest issue) ≡ o → window_in issue o ≡ Some w → WindowOf issue w
+    go low None q h = apart cc
+    go low (Some a) q h = let same : window_at issue a ≡ w = cc in rw (← same) (at_tells issue a (month_some (earliest issue) a q) low)
 
 -- an issue of the years 1970..2099 has one
-pub window_some : (issue : ℕ) → issue < start_of issue_months → (w : Window) × (window_of issue ≡ some w)
+pub window_some : (issue : ℕ) → issue < start_of issue_months → (w : Window) × (window_of issue ≡ Some w)
 unfolding window_of
 window_some issue h = go (month_of (earliest issue)) refl
   where
-    go : (o : Option ℕ) → month_of (earliest issue) ≡ o → (w : Window) × (window_of issue ≡ some w)
-    go none q = impossible (omega (arith, month_none (earliest issue) q, start_mono issue_months (suc issue_months) (omega arith), start_end_lem))
-    go (some a) q = (window_at issue a, rw (lt-ltb issue (start_of issue_months) h, q))
+    go : (o : Option ℕ) → month_of (earliest issue) ≡ o → (w : Window) × (window_of issue ≡ Some w)
+    go None q = impossible (omega (arith, month_none (earliest issue) q, start_mono issue_months (suc issue_months) (omega arith), start_end_lem))
+    go (Some a) q = (window_at issue a, rw (lt-ltb issue (start_of issue_months) h, q))

@@ -1,6 +1,6 @@
 -- Document 01, "Time": the issue's month, minutes and dates.
 use Rattle.std.specs.Prelude.{ℕ, ◌+◌, ◌-◌, ◌*◌, ◌/◌, ◌%◌, Bool, cond, ◌&&◌, leb, ltb}
-use Rattle.std.proofs.Math.Option.{Option, none, some}
+use Rattle.std.specs.Prelude.{Option, None, Some}
 use Rattle.months.specs.Months.{month_number, year_of, month_of_year, days_in, all_months, start_of, month_of}
 use Rattle.calendar.specs.declared.Stamp.{Stamp}
 use Rattle.calendar.specs.declared.Date.{Date}
@@ -31,16 +31,16 @@ is_month year month = leb 1970 year && (leb 1 month && leb month 12) && ltb (mon
 unfoldable pub minute_of : Date → Option ℕ
 minute_of d =
     cond (is_month d.year d.month && is_time d.stamp && day_exists (month_number d.year d.month) d.stamp)
-    (some (minute_in (month_number d.year d.month) d.stamp))
-    none
+    (Some (minute_in (month_number d.year d.month) d.stamp))
+    None
 
 -- a month's DDHHMM, so many minutes after its start
 abbrev pub stamp_after : ℕ → Stamp
 stamp_after left = record { day = left / 1440 + 1; hour = left / 60 % 24; minute = left % 60 }
 
 abbrev pub date_in : ℕ → Option ℕ → Option Date
-date_in minute none = none
-date_in minute (some k) = some (record { year = year_of k; month = month_of_year k; stamp = stamp_after (minute - start_of k) })
+date_in minute None = None
+date_in minute (Some k) = Some (record { year = year_of k; month = month_of_year k; stamp = stamp_after (minute - start_of k) })
 
 unfoldable pub date_of : ℕ → Option Date
 date_of minute = date_in minute (month_of minute)

@@ -1,6 +1,6 @@
 -- The code's answers as document 01's: a minute or none, a date or none.
 use Rattle.std.specs.Prelude.{ℕ}
-use Rattle.std.proofs.Math.Option.{Option, none, some}
+use Rattle.std.specs.Prelude.{Option, None, Some}
 use Rattle.calendar.specs.declared.Date.{Date}
 use Rattle.calendar.specs.declared.Moment.{Moment}
 use Rattle.calendar.specs.declared.Moment.TheVariants as moment
@@ -8,9 +8,9 @@ use Rattle.calendar.specs.declared.Dated.{Dated}
 use Rattle.calendar.specs.declared.Dated.TheVariants as dated
 
 abbrev pub paper_moment : Moment → Option ℕ
-paper_moment moment.Nothing = none
-paper_moment (moment.At minute) = some minute
+paper_moment moment.Nothing = None
+paper_moment (moment.At minute) = Some minute
 
 abbrev pub paper_dated : Dated → Option Date
-paper_dated dated.Nothing = none
-paper_dated (dated.On date) = some date
+paper_dated dated.Nothing = None
+paper_dated (dated.On date) = Some date

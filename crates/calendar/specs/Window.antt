@@ -1,6 +1,6 @@
 -- This file serves the code: the purge minutes under an issue, told by seven numbers. That they are the minutes of `is_purge` is a law (proofs/Windows).
 use Rattle.std.specs.Prelude.{ℕ, suc, ◌+◌, ◌-◌, ◌*◌, ◌≡◌, Bool, not, cond, ◌&&◌, ◌||◌, leb, ltb}
-use Rattle.std.proofs.Math.Option.{Option, none, some}
+use Rattle.std.specs.Prelude.{Option, None, Some}
 use Rattle.months.specs.Months.{days_in, issue_months, start_of, month_of}
 use Rattle.calendar.specs.Purge.{is_purge}
 use Rattle.calendar.specs.declared.Window.{Window}
@@ -31,16 +31,16 @@ window_at issue a =
     }
 
 abbrev pub window_in : ℕ → Option ℕ → Option Window
-window_in issue none = none
-window_in issue (some a) = some (window_at issue a)
+window_in issue None = None
+window_in issue (Some a) = Some (window_at issue a)
 
 -- An issue whose year is not 1970..2099 has none.
 unfoldable pub window_of : ℕ → Option Window
-window_of issue = cond (ltb issue (start_of issue_months)) (window_in issue (month_of (earliest issue))) none
+window_of issue = cond (ltb issue (start_of issue_months)) (window_in issue (month_of (earliest issue))) None
 
 abbrev pub paper_windowed : Windowed → Option Window
-paper_windowed windowed.Nothing = none
-paper_windowed (windowed.Is w) = some w
+paper_windowed windowed.Nothing = None
+paper_windowed (windowed.Is w) = Some w
 
 -- ---- the minutes within it
 -- So long after a later month's start: the same DDHHMM is in the first month, and not too early.

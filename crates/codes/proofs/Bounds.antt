@@ -4,7 +4,7 @@ use native.Mathlib.Omega.{arith}
 use mathlib.Core.Path.{◌≡◌, refl, sym, ◌∙◌}
 use mathlib.Core.Bool.{Bool, true, false, cond, ◌&&◌}
 use mathlib.Core.List.{List, [], ◌∷◌, ◌++◌}
-use mathlib.Core.Option.{Option, none, some}
+use Rattle.std.specs.Prelude.{Option, None, Some}
 use lib.ListN.{length, drop, get_or}
 use lib.Dec.{leb, eqb}
 use borrow.Author.Tests.{ltb-true, leb-true}
@@ -92,13 +92,13 @@ numbers_low p s q n m h e =
 
 -- the last prefix, if there is one, is a prefix
 abbrev pub Below : Option ℕ → Type 0
-Below none = Unit {0}
-Below (some p) = p < prefixes
+Below None = Unit {0}
+Below (Some p) = p < prefixes
 
 short_low : (last : Option ℕ) (s : List ℕ) (p n m : ℕ) → Below last → short last s ≡ covers p n m → Low p n m
 unfolding short
-short_low none s p n m h e = apart cc
-short_low (some q) s p n m h e = numbers_low q s p n m h e
+short_low None s p n m h e = apart cc
+short_low (Some q) s p n m h e = numbers_low q s p n m h e
 
 pub covers_low : (last : Option ℕ) (s : List ℕ) (p n m : ℕ) → Below last → said last s ≡ covers p n m → Low p n m
 unfolding said time

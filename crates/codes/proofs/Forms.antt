@@ -5,7 +5,7 @@ use native.Mathlib.Omega.{arith}
 use mathlib.Core.Path.{◌≡◌, refl, sym, ap, ◌∙◌}
 use mathlib.Core.List.{List, [], ◌∷◌, ◌++◌}
 use mathlib.Core.Bool.{Bool, true, false, cond, ◌&&◌, and-true, and-false, and_assoc}
-use mathlib.Core.Option.{Option, none, some}
+use Rattle.std.specs.Prelude.{Option, None, Some}
 use lib.ListN.{length, get_or, drop, length-drop, drop_of_length-le}
 use lib.Seq.{get_or-drop, drop-drop}
 use lib.Dec.{ltb, leb, eqb}
@@ -246,7 +246,7 @@ module _ (s : List ℕ) (at : ℕ) where
 
     usual : (p : ℕ) (r : Covered) → r ≡ covered_at s at (numbers p (element_at s at)) → Usual s at p r
     unfolding short
-    usual p r q = record { is = λ q' n m after e. q ∙ ap (covered_at s at) (sym (usual_said (some p))) }
+    usual p r q = record { is = λ q' n m after e. q ∙ ap (covered_at s at) (sym (usual_said (Some p))) }
 
   pub usual_single : (d : Bool) → d ≡ begins single_form (drop at s) → d ≡ true → (p : ℕ) (r : Covered) → r ≡ covered_at s at (numbers p (element_at s at)) → Usual s at p r
   usual_single = usual (word "-") (single_is s at) (λ e. let no : ⊥ = omega arith in no)
@@ -264,8 +264,8 @@ module _ (s : List ℕ) (at : ℕ) where
 
   purge_short : (l : Option ℕ) → length (element_at s at) ≡ 7 → short l (element_at s at) ≡ elements.wrong
   unfolding short numbers
-  purge_short none h = refl
-  purge_short (some p) h =
+  purge_short None h = refl
+  purge_short (Some p) h =
       rw (other_length single_form (element_at s at) (λ x. omega arith), other_length (word "ALL-") (element_at s at) (λ x. omega arith), other_length range_form (element_at s at) (λ x. omega arith))
 
   module _ (l : Last) (f : Bool) (ef : f ≡ begins prefix_form (drop at s)) (under : Last) (i : ℕ) where

@@ -4,7 +4,7 @@ use native.Mathlib.Omega.{arith}
 use mathlib.Core.Path.{◌≡◌, refl, sym, ap, ◌∙◌}
 use mathlib.Core.List.{List, [], ◌∷◌, ◌++◌, append_assoc, append-nil}
 use mathlib.Core.Bool.{Bool, true, false, ◌&&◌}
-use mathlib.Core.Option.{Option, none, some}
+use Rattle.std.specs.Prelude.{Option, None, Some}
 use lib.ListN.{length, get_or, drop, length-drop, drop_of_length-le}
 use lib.Seq.{drop_at, take-suc, get_or-drop, length-take-le}
 use lib.Dec.{eqb, leb}
@@ -269,8 +269,8 @@ module _ (after : ℕ) where
 
   short_wrong : (last : Option ℕ) (s : List ℕ) → WrongIfNothing (short last s)
   unfolding short
-  short_wrong none s e = refl
-  short_wrong (some p) s e = numbers_wrong p s e
+  short_wrong None s e = refl
+  short_wrong (Some p) s e = numbers_wrong p s e
 
   covers_none : (last : Option ℕ) (s : List ℕ) → covered_for after (said last s) ≡ Covered.Nothing → said last s ≡ said_of_purge s
   unfolding said said_of_purge
@@ -323,7 +323,7 @@ step_usual s c h p ep g u q n m after e next en =
 
 -- the block from a step on, with the places so far
 abbrev pub read_then : List ℕ → List ℕ → Step → Read
-read_then s got (Step.Covers p n m next) = read_from (length s) (some p) (insert_covered p n m got) (elements_from next.at (drop next.at s))
+read_then s got (Step.Covers p n m next) = read_from (length s) (Some p) (insert_covered p n m got) (elements_from next.at (drop next.at s))
 read_then s got (Step.Purge t at) = block got t at
 read_then s got (Step.Wrong at) = wrong_at at
 
@@ -349,8 +349,8 @@ read_step s got c =
 -- ---- a step over places goes ahead
 said_empty : (last : Option ℕ) → said last [] ≡ elements.wrong
 unfolding said exactly begins short numbers
-said_empty none = refl
-said_empty (some p) = refl
+said_empty None = refl
+said_empty (Some p) = refl
 
 pub record Ahead (s : List ℕ) (c : Cursor) (p n m : ℕ) (next : Cursor) : Type 0 where
   pub inside : c.at < length s

@@ -5,7 +5,7 @@ use mathlib.Core.Path.{◌≡◌, refl, ◌∙◌}
 use mathlib.Core.List.Memᴰ
 use mathlib.Core.List.{List, [], ◌∷◌, Memᴰ}
 use mathlib.Core.Bool.{Bool, true, false, cond, or-true}
-use mathlib.Core.Option.{Option, none, some}
+use Rattle.std.specs.Prelude.{Option, None, Some}
 use mathlib.Core.Logic.{⊎_elim}
 use lib.ListN.{length, drop}
 use lib.Dec.{leb}
@@ -26,31 +26,31 @@ use Rattle.codes.proofs.Steps.{runs, elements_last, next_place_lem, past_within}
 -- ---- by elements
 module _ (last : Option ℕ) (before : List Stretch) (e : Element) (es : List Element) where
   pub twice_covers : (p n m : ℕ) → said last e.bytes ≡ elements.covers p n m
-      → twice_from last before (e ∷ es) ≡ cond (covered_before (stretch_of p n m) before) (some e.at) (twice_from (some p) (stretch_of p n m ∷ before) es)
+      → twice_from last before (e ∷ es) ≡ cond (covered_before (stretch_of p n m) before) (Some e.at) (twice_from (Some p) (stretch_of p n m ∷ before) es)
   unfolding twice_from
   twice_covers p n m s = rw (s, twice_from)
 
-  pub twice_purge : (t : Stamp) → said last e.bytes ≡ elements.purge t → twice_from last before (e ∷ es) ≡ none
+  pub twice_purge : (t : Stamp) → said last e.bytes ≡ elements.purge t → twice_from last before (e ∷ es) ≡ None
   unfolding twice_from
   twice_purge t s = rw (s, twice_from)
 
-  pub twice_wrong : said last e.bytes ≡ elements.wrong → twice_from last before (e ∷ es) ≡ none
+  pub twice_wrong : said last e.bytes ≡ elements.wrong → twice_from last before (e ∷ es) ≡ None
   unfolding twice_from
   twice_wrong s = rw (s, twice_from)
 
 -- ---- by steps: the first repeating element from a step on, which stands at the place `at`
 abbrev pub twice_then : List ℕ → ℕ → List Stretch → Step → Option ℕ
 twice_then s at before (Step.Covers p n m next) =
-    cond (covered_before (stretch_of p n m) before) (some at) (twice_from (some p) (stretch_of p n m ∷ before) (elements_from next.at (drop next.at s)))
-twice_then s at before (Step.Purge t place) = none
-twice_then s at before (Step.Wrong place) = none
+    cond (covered_before (stretch_of p n m) before) (Some at) (twice_from (Some p) (stretch_of p n m ∷ before) (elements_from next.at (drop next.at s)))
+twice_then s at before (Step.Purge t place) = None
+twice_then s at before (Step.Wrong place) = None
 
 then_over : (s : List ℕ) (before : List Stretch) (last : Option ℕ) (e : Element) (next : ℕ) (x : elements.Said) → said last e.bytes ≡ x
     → twice_from last before (e ∷ elements_from next (drop next s)) ≡ twice_then s e.at before (step_over e next x)
 then_over s before last e next (elements.covers p n m) q = twice_covers last before e _ p n m q
 then_over s before last e next (elements.purge t) q = twice_purge last before e _ t q ∙ ends e.last
   where
-    ends : (b : Bool) → none ≡ twice_then s e.at before (purged b t e.at (e.at + length e.bytes))
+    ends : (b : Bool) → None ≡ twice_then s e.at before (purged b t e.at (e.at + length e.bytes))
     ends true = refl
     ends false = refl
 then_over s before last e next elements.wrong q = twice_wrong last before e _ q

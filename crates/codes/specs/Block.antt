@@ -1,6 +1,6 @@
 -- Document 01, "Segments and place code blocks": the whole block, read element after element.
 use Rattle.std.specs.Prelude.{ℕ, zero, suc, ◌+◌, ◌-◌, ◌≤◌, ◌≡◌, List, [], ◌∷◌, Bool, true, false, cond, ◌&&◌, ◌||◌, length, drop, ltb, leb, eqb}
-use Rattle.std.proofs.Math.Option.{Option, none, some}
+use Rattle.std.specs.Prelude.{Option, None, Some}
 use Rattle.refusal.specs.Numbers.{wrong_time, wrong_block, too_many_places, place_twice}
 use Rattle.refusal.specs.Answer.{Answer, ok, refused}
 use Rattle.calendar.specs.Purge.{purge_of}
@@ -39,14 +39,14 @@ unfoldable pub read_from : ℕ → Option ℕ → List ℕ → List Element → 
 read_from stop last got [] = wrong_at stop
 read_from stop last got (e ∷ es) =
     elim (said last e.bytes) [
-      | covers p n m ↦ read_from stop (some p) (insert_covered p n m got) es
+      | covers p n m ↦ read_from stop (Some p) (insert_covered p n m got) es
       | purge s ↦ ended e.last (block got s e.at) (e.at + length e.bytes)
       | wrong ↦ wrong_at e.at
     ]
 
 -- the block that starts a text whose first byte has the place `at`
 abbrev pub read_at : ℕ → ℕ → List ℕ → Read
-read_at stop at text = read_from stop none [] (elements_from at text)
+read_at stop at text = read_from stop None [] (elements_from at text)
 
 -- the block that starts at a place of the text
 unfoldable pub read_block : List ℕ → ℕ → Read
@@ -72,24 +72,24 @@ covered_before a (b ∷ bs) = share a b || covered_before a bs
 
 -- The start of the first element that covers a place that an element before it covers. The purge or a wrong element ends the block.
 unfoldable pub twice_from : Option ℕ → List Stretch → List Element → Option ℕ
-twice_from last before [] = none
+twice_from last before [] = None
 twice_from last before (e ∷ es) =
     elim (said last e.bytes) [
-      | covers p n m ↦ cond (covered_before (stretch_of p n m) before) (some e.at) (twice_from (some p) (stretch_of p n m ∷ before) es)
-      | purge s ↦ none
-      | wrong ↦ none
+      | covers p n m ↦ cond (covered_before (stretch_of p n m) before) (Some e.at) (twice_from (Some p) (stretch_of p n m ∷ before) es)
+      | purge s ↦ None
+      | wrong ↦ None
     ]
 
 -- in the block that starts at a place of the text
 unfoldable pub twice_at : List ℕ → ℕ → Option ℕ
-twice_at text at = twice_from none [] (elements_from at (drop at text))
+twice_at text at = twice_from None [] (elements_from at (drop at text))
 
 -- ---- "A place is addressed exactly if some element covers it"
 pub data Covered (q : ℕ) : Option ℕ → List Element → Type 0 where
   here : {last : Option ℕ} {e : Element} {es : List Element} (p n m : ℕ) → said last e.bytes ≡ covers p n m
       → place_of p n ≤ q → q ≤ place_of p m → Covered q last (e ∷ es)
   later : {last : Option ℕ} {e : Element} {es : List Element} (p n m : ℕ) → said last e.bytes ≡ covers p n m
-      → Covered q (some p) es → Covered q last (e ∷ es)
+      → Covered q (Some p) es → Covered q last (e ∷ es)
 
 -- ---- a segment's content: its places and its purge minute
 pub record Content : Type 0 where
@@ -101,12 +101,12 @@ abbrev pub counted : ℕ → Content → Answer Content
 counted start c = cond (leb (length c.places) capacity) (ok c) (refused too_many_places start)
 
 abbrev pub dated : ℕ → ℕ → List ℕ → Option ℕ → Answer Content
-dated start at ps none = refused wrong_time at
-dated start at ps (some t) = counted start (record { purge = t; places = ps })
+dated start at ps None = refused wrong_time at
+dated start at ps (Some t) = counted start (record { purge = t; places = ps })
 
 abbrev pub once : Option ℕ → Answer Content → Answer Content
-once none a = a
-once (some place) a = refused place_twice place
+once None a = a
+once (Some place) a = refused place_twice place
 
 abbrev pub content_in : ℕ → ℕ → Option ℕ → Read → Answer Content
 content_in issue start twice (wrong_at place) = refused wrong_block place

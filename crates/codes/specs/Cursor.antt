@@ -1,6 +1,6 @@
 -- What the code's types mean, with the reading place, which moves forward one element at a time: it serves the code.
 use Rattle.std.specs.Prelude.{ℕ, ◌+◌, ◌≡◌, List, [], ◌∷◌, Bool, true, false, cond, ◌||◌, length, drop, leb}
-use Rattle.std.proofs.Math.Option.{Option, none, some}
+use Rattle.std.specs.Prelude.{Option, None, Some}
 use Rattle.lines.specs.Bytes.{exactly}
 use Rattle.lines.specs.Lines.{end_bytes}
 use Rattle.lines.specs.Spans.{end_at}
@@ -16,8 +16,8 @@ use Rattle.codes.specs.declared.Step.{Step}
 
 -- "under the last prefix of this block", if there is one yet
 abbrev pub paper_last : Last → Option ℕ
-paper_last (Prefix p) = some p
-paper_last Nothing = none
+paper_last (Prefix p) = Some p
+paper_last Nothing = None
 
 -- ---- "the reading place moves forward one element at a time"
 -- the place of the next element, or the text's length
@@ -71,7 +71,7 @@ covered_at text at x = covered_for (at + length (element_at text at)) x
 
 -- what was told of the element at a place under the prefix p: if it covers numbers, then these
 pub record Usual (text : List ℕ) (at p : ℕ) (r : Covered) : Type 0 where
-  pub is : (q n m after : ℕ) → r ≡ Covered.Numbers q n m after → r ≡ covered_at text at (said (some p) (element_at text at))
+  pub is : (q n m after : ℕ) → r ≡ Covered.Numbers q n m after → r ≡ covered_at text at (said (Some p) (element_at text at))
 
 -- what an element says that covers nothing: it is the purge, or wrong
 unfoldable pub said_of_purge : List ℕ → elements.Said

@@ -1,6 +1,6 @@
 -- Document 01, "Segments and place code blocks": the elements of a block, and what each says.
 use Rattle.std.specs.Prelude.{ℕ, ◌+◌, List, [], ◌∷◌, ◌++◌, Bool, true, false, cond, ◌&&◌, length, drop, ltb, leb}
-use Rattle.std.proofs.Math.Option.{Option, none, some}
+use Rattle.std.specs.Prelude.{Option, None, Some}
 use Rattle.lines.specs.Bytes.{Kind, word, begins, exactly}
 use Rattle.lines.specs.Lines.{pieces, Line, lines_from, prefix_form, three_digits}
 use Rattle.calendar.specs.Calendar.{is_time}
@@ -78,8 +78,8 @@ time s = cond (is_time s) (purge s) wrong
 
 -- "Short: `nnn` or `nnn>mmm`, under the last prefix of this block."
 unfoldable pub short : Option ℕ → List ℕ → Said
-short none s = wrong
-short (some p) s = numbers p s
+short None s = wrong
+short (Some p) s = numbers p s
 
 -- "Full: `SSFnnn` or `SSFnnn>mmm`; SS two capitals, F is C or Z. It sets the prefix."
 unfoldable pub said : Option ℕ → List ℕ → Said

@@ -1,6 +1,6 @@
 -- Document 01, "Written form", in stages: places, runs, elements, lines, bytes.
 use Rattle.std.specs.Prelude.{ℕ, suc, zero, ◌+◌, ◌/◌, ◌%◌, List, [], ◌∷◌, ◌++◌, Bool, cond, ◌&&◌, not, length, leb, eqb}
-use Rattle.std.proofs.Math.Option.{Option, none, some}
+use Rattle.std.specs.Prelude.{Option, None, Some}
 use Rattle.lines.specs.Bytes.{bytes}
 use Rattle.lines.specs.Lines.{end_bytes}
 use Rattle.lines.specs.declared.End.{End}
@@ -41,8 +41,8 @@ spans_of (r ∷ rs) = parted r.first r.more ++ spans_of rs
 -- ---- elements, each with its `-`
 -- "each prefix once"
 abbrev pub new_prefix : Option ℕ → ℕ → List ℕ
-new_prefix none p = prefix_bytes p
-new_prefix (some q) p = cond (eqb q p) [] (prefix_bytes p)
+new_prefix None p = prefix_bytes p
+new_prefix (Some q) p = cond (eqb q p) [] (prefix_bytes p)
 
 -- the end of a range of so many more
 abbrev pub up_to : ℕ → ℕ → List ℕ
@@ -54,14 +54,14 @@ element_of last r = new_prefix last (r.first / 1000) ++ (three_bytes (r.first % 
 
 unfoldable pub elements_of : Option ℕ → List Run → List (List ℕ)
 elements_of last [] = []
-elements_of last (r ∷ rs) = element_of last r ∷ elements_of (some (r.first / 1000)) rs
+elements_of last (r ∷ rs) = element_of last r ∷ elements_of (Some (r.first / 1000)) rs
 
 unfoldable pub purge_element : Stamp → List ℕ
 purge_element s = two_bytes s.day ++ (two_bytes s.hour ++ (two_bytes s.minute ++ bytes "-"))
 
 -- "Places ascending by number; .. then the purge": the elements of a block
 unfoldable pub block_elements : List ℕ → Stamp → List (List ℕ)
-block_elements ps s = elements_of none (spans_of (runs_of ps)) ++ (purge_element s ∷ [])
+block_elements ps s = elements_of None (spans_of (runs_of ps)) ++ (purge_element s ∷ [])
 
 -- ---- lines: "A new line begins before an element (with its `-`) that would carry the line past 66 bytes."
 -- what still goes on this line, and the lines after it

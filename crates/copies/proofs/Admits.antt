@@ -4,7 +4,7 @@ use native.Mathlib.Omega.{arith}
 use mathlib.Core.Path.{◌≡◌, refl, sym, ap, ap₂, subst, ◌∙◌}
 use mathlib.Core.List.{List}
 use mathlib.Core.Bool.{Bool, true, false}
-use mathlib.Core.Option.{Option, none, some}
+use Rattle.std.specs.Prelude.{Option, None, Some}
 use lib.ListN.{length, get_or, get_or-eq_default}
 use lib.Dec.{eqb}
 use borrow.Author.Tests.{eqb-true, eqb-false}
@@ -63,9 +63,9 @@ opened_at ds (suc k) e =
       there = w.2;
     }
 
-pub some_of : (o : Option Content) → exists o ≡ true → (c : Content) × (o ≡ some c)
-some_of none e = apart cc
-some_of (some c) e = (c, refl)
+pub some_of : (o : Option Content) → exists o ≡ true → (c : Content) × (o ≡ Some c)
+some_of None e = apart cc
+some_of (Some c) e = (c, refl)
 
 -- ---- the copy's block, and every work on it
 pub record Works (l : List ℕ) (d s k : ℕ) : Type 0 where
@@ -76,13 +76,13 @@ pub record Works (l : List ℕ) (d s k : ℕ) : Type 0 where
   pub answer : (e : Edit) → in_range (editing e) ≡ true → (on_bytes l (on d s (editing e))).0 ≡ (edited (number_at l 0) e (content_of (block_of k l))).0
   pub kept : (e : Edit) → in_range (editing e) ≡ true → (edited (number_at l 0) e (content_of (block_of k l))).1 ≡ content_of (block_of k l) → (on_bytes l (on d s (editing e))).1 ≡ l
   pub stored : (e : Edit) → in_range (editing e) ≡ true → length (edited (number_at l 0) e (content_of (block_of k l))).1.places ≤ capacity
-      → (on_bytes l (on d s (editing e))).1 ≡ put_block k (holding (some (edited (number_at l 0) e (content_of (block_of k l))).1)) l
+      → (on_bytes l (on d s (editing e))).1 ≡ put_block k (holding (Some (edited (number_at l 0) e (content_of (block_of k l))).1)) l
 
 issue_is : (l : List ℕ) → (book_of l).issue ≡ number_at l 0
 unfolding book_of
 issue_is l = refl
 
-module _ (l : List ℕ) (base : Base l) (s : ℕ) (c₀ : Content) (there : at (book_of l).segments s ≡ some c₀) (k : ℕ) (ks : List Copy) (stale : Bool) (low : k < 4)
+module _ (l : List ℕ) (base : Base l) (s : ℕ) (c₀ : Content) (there : at (book_of l).segments s ≡ Some c₀) (k : ℕ) (ks : List Copy) (stale : Bool) (low : k < 4)
     (opened : get_or (book_of l).drafts k closed ≡ working ks stale) (n : ℕ) (v : Indexed s ks n) where
   two : n < 2
   two = copy_two l base k ks stale low opened s c₀ there n v
@@ -90,7 +90,7 @@ module _ (l : List ℕ) (base : Base l) (s : ℕ) (c₀ : Content) (there : at (
   good : contents.Sound (number_at l 0) v.held
   good = subst (λ (i : ℕ). contents.Sound i v.held) (issue_is l) (sound_true (book_of l).issue v.held (copy_fine l base k ks stale low opened s c₀ there n v))
 
-  block_is : block_of (9 + 2 * k + n) l ≡ holding (some v.held)
+  block_is : block_of (9 + 2 * k + n) l ≡ holding (Some v.held)
   block_is = copy_block_lem l base k ks stale low opened s c₀ there n v
 
   said : v.held ≡ content_of (block_of (9 + 2 * k + n) l)
@@ -112,21 +112,21 @@ module _ (l : List ℕ) (base : Base l) (s : ℕ) (c₀ : Content) (there : at (
             let same : (edited (book_of l).issue e v.held).1 ≡ (edited (number_at l 0) e (content_of (block_of (9 + 2 * k + n) l))).1 =
             ap (λ (i : ℕ). (edited i e v.held).1) (issue_is l) ∙ ap (λ (c : Content). (edited (number_at l 0) e c).1) said in
             copy_stored l base k ks stale low opened s c₀ there e r v.held v.copied n two v (subst (λ (c : Content). length c.places ≤ capacity) (sym same) q)
-            ∙ ap (λ (c : Content). put_block (9 + 2 * k + n) (holding (some c)) l) same;
+            ∙ ap (λ (c : Content). put_block (9 + 2 * k + n) (holding (Some c)) l) same;
       }
 
 -- the block that was found
-pub works_at : (l : List ℕ) (d s k : ℕ) → Base l → Admitted l d s → copy_block l d s ≡ some k → Works l d s k
+pub works_at : (l : List ℕ) (d s k : ℕ) → Base l → Admitted l d s → copy_block l d s ≡ Some k → Works l d s k
 unfolding copy_block
 works_at l d s k base a e =
     let o = opened_at (book_of l).drafts d a.opened in
     let c = some_of (at (book_of l).segments s) a.there in
-    let f : block_in d (index_of s o.ks) ≡ some k = ap (λ (x : Draft). block_in d (index_of s (copies_of x))) (sym o.there) ∙ e in
+    let f : block_in d (index_of s o.ks) ≡ Some k = ap (λ (x : Draft). block_in d (index_of s (copies_of x))) (sym o.there) ∙ e in
     behind base o c (index_of s o.ks) refl f
   where
-    behind : Base l → (o : Opened (book_of l).drafts d) → (c : Content) × (at (book_of l).segments s ≡ some c) → (i : Option ℕ) → index_of s o.ks ≡ i → block_in d i ≡ some k → Works l d s k
-    behind base o c none q f = apart cc
-    behind base o c (some n) q f =
+    behind : Base l → (o : Opened (book_of l).drafts d) → (c : Content) × (at (book_of l).segments s ≡ Some c) → (i : Option ℕ) → index_of s o.ks ≡ i → block_in d i ≡ Some k → Works l d s k
+    behind base o c None q f = apart cc
+    behind base o c (Some n) q f =
         let z : 7 + 2 * d + n ≡ k = cc in
         let y : 9 + 2 * o.k + n ≡ k = omega (arith, o.is) in
         subst (λ (i : ℕ). Works l i s k) (sym o.is)
@@ -139,13 +139,13 @@ pub record Same (l : List ℕ) (a : BookAnswer) (c : Call) : Type 0 where
   pub bytes : l ≡ (on_bytes l c).1
 
 -- 16
-pub absent_at : (l : List ℕ) (d s : ℕ) (e : Edit) → Base l → Admitted l d s → in_range (editing e) ≡ true → copy_block l d s ≡ none → Same l (refused not_taken 0) (on d s (editing e))
+pub absent_at : (l : List ℕ) (d s : ℕ) (e : Edit) → Base l → Admitted l d s → in_range (editing e) ≡ true → copy_block l d s ≡ None → Same l (refused not_taken 0) (on d s (editing e))
 unfolding copy_block
 absent_at l d s e base a r q =
     let o = opened_at (book_of l).drafts d a.opened in
     let c = some_of (at (book_of l).segments s) a.there in
-    let f : block_in d (index_of s o.ks) ≡ none = ap (λ (x : Draft). block_in d (index_of s (copies_of x))) (sym o.there) ∙ q in
-    let absent : copy_of s o.ks ≡ none = index_none s o.ks (behind (index_of s o.ks) f) in
+    let f : block_in d (index_of s o.ks) ≡ None = ap (λ (x : Draft). block_in d (index_of s (copies_of x))) (sym o.there) ∙ q in
+    let absent : copy_of s o.ks ≡ None = index_none s o.ks (behind (index_of s o.ks) f) in
     let low : o.k < 4 = omega (arith, o.low, base.lies.four) in
     subst (λ (i : ℕ). Same l (refused not_taken 0) (on i s (editing e))) (sym o.is)
     (record {
@@ -153,9 +153,9 @@ absent_at l d s e base a r q =
       bytes = sym (absent_bytes l base o.k o.ks o.stale low o.here s c.0 c.1 e r absent);
     })
   where
-    behind : (i : Option ℕ) → block_in d i ≡ none → i ≡ none
-    behind none f = refl
-    behind (some n) f = apart cc
+    behind : (i : Option ℕ) → block_in d i ≡ None → i ≡ None
+    behind None f = refl
+    behind (Some n) f = apart cc
 
 -- ---- 1, 12, 13, 24, 15
 -- a refusal of the admission as one of a call
@@ -207,8 +207,8 @@ module _ (l : List ℕ) (d s : ℕ) where
     unfolding and_then
     asked_is w n p closed r h ex er eh e = subst (λ (a : BookAnswer). Same l a (on d s w)) (as_answer e) (says_is w 13 0 (on_closed (book_of l) d s w ex))
     asked_is w n p (working ks stale) false h ex er eh e = subst (λ (a : BookAnswer). Same l a (on d s w)) (as_answer e) (says_is w 24 0 (on_far (book_of l) d ks stale ex s w er))
-    asked_is w n p (working ks stale) true none ex er eh e = subst (λ (a : BookAnswer). Same l a (on d s w)) (as_answer e) (says_is w 15 0 (on_gone (book_of l) d ks stale ex s w er eh))
-    asked_is w n p (working ks stale) true (some c) ex er eh e = apart cc
+    asked_is w n p (working ks stale) true None ex er eh e = subst (λ (a : BookAnswer). Same l a (on d s w)) (as_answer e) (says_is w 15 0 (on_gone (book_of l) d ks stale ex s w er eh))
+    asked_is w n p (working ks stale) true (Some c) ex er eh e = apart cc
 
   -- what the admission refuses
   pub refused_at_lem : (w : Work) (r : Refusal) → Bytes l → paper_verdict (Refused r) ≡ admission l d (in_range w) s → Same l (paper_refusal r) (on d s w)
@@ -225,8 +225,8 @@ module _ (l : List ℕ) (d s : ℕ) where
   unfolding and_then
   accepted_of closed r h e = apart cc
   accepted_of (working ks stale) false h e = apart cc
-  accepted_of (working ks stale) true none e = apart cc
-  accepted_of (working ks stale) true (some c) e = (refl, refl, refl)
+  accepted_of (working ks stale) true None e = apart cc
+  accepted_of (working ks stale) true (Some c) e = (refl, refl, refl)
 
   pub admitted_at : (r : Bool) → paper_verdict Accepted ≡ admission l d r s → Admitted l d s
   admitted_at r e =

@@ -5,8 +5,9 @@ use mathlib.Core.Path.{◌≡◌, refl, sym, ap, ap₂, subst, ◌∙◌}
 use mathlib.Core.Logic.{◌≢◌}
 use mathlib.Core.List.{List, [], ◌∷◌, ◌++◌}
 use mathlib.Core.Bool.{Bool, true, false}
-use mathlib.Core.Option.{Option, none, some}
-use lib.ListN.{length, get_or, get_elem?, set, length-set}
+use Rattle.std.specs.Prelude.{Option, None, Some}
+use lib.ListN.{length, get_or, set, length-set}
+use Rattle.std.specs.Prelude.{slice_get}
 use lib.Dec.{eqb}
 use borrow.Author.Tests.{eqb-true}
 use Rattle.laws.proofs.Tests.{by, apart}
@@ -32,8 +33,8 @@ use Rattle.copies.specs.Copies.{one_on, index_of}
 -- ---- the copy of a segment
 pub record Indexed (s : ℕ) (ks : List Copy) (n : ℕ) : Type 0 where
   pub held : Content
-  pub here : get_elem? ks n ≡ some (record { segment = s; held = held })
-  pub copied : copy_of s ks ≡ some held
+  pub here : slice_get ks n ≡ Some (record { segment = s; held = held })
+  pub copied : copy_of s ks ≡ Some held
   pub named : has s ks ≡ true
   pub again : (c : Content) → Distinct ks → recopy s c ks ≡ set ks n (record { segment = s; held = c })
 
@@ -43,7 +44,7 @@ indexed_here s k ks t =
     let e : s ≡ k.segment = eqb-true s k.segment t in
     record {
       held = k.held;
-      here = ap (λ (n : ℕ). some (record { segment = n; held = k.held })) (sym e);
+      here = ap (λ (n : ℕ). Some (record { segment = n; held = k.held })) (sym e);
       copied = rw t;
       named = rw t;
       again = λ c x. rw t (front c x);
@@ -70,35 +71,35 @@ indexed_later s k ks n t v =
     rest : (c : Content) → Distinct (k ∷ ks) → k ∷ recopy s c ks ≡ k ∷ set ks n (record { segment = s; held = c })
     rest c (first_once absent x) = ap (λ (r : List Copy). k ∷ r) (v.again c x)
 
-pub index_some : (s : ℕ) (ks : List Copy) (n : ℕ) → index_of s ks ≡ some n → Indexed s ks n
+pub index_some : (s : ℕ) (ks : List Copy) (n : ℕ) → index_of s ks ≡ Some n → Indexed s ks n
 unfolding index_of
 index_some s [] n e = apart cc
 index_some s (k ∷ ks) n e =
     by (eqb s k.segment)
-    (λ t. let f : some 0 ≡ some n = rw t at e in let z : 0 ≡ n = cc in subst (Indexed s (k ∷ ks)) z (indexed_here s k ks t))
-    (λ t. let f : one_on (index_of s ks) ≡ some n = rw t at e in
+    (λ t. let f : Some 0 ≡ Some n = rw t at e in let z : 0 ≡ n = cc in subst (Indexed s (k ∷ ks)) z (indexed_here s k ks t))
+    (λ t. let f : one_on (index_of s ks) ≡ Some n = rw t at e in
     behind (index_of s ks) refl f t (λ m. index_some s ks m))
   where
-    behind : (o : Option ℕ) → index_of s ks ≡ o → one_on o ≡ some n → eqb s k.segment ≡ false → ((m : ℕ) → index_of s ks ≡ some m → Indexed s ks m) → Indexed s (k ∷ ks) n
-    behind none q f t next = apart cc
-    behind (some m) q f t next = let z : suc m ≡ n = cc in subst (Indexed s (k ∷ ks)) z (indexed_later s k ks m t (next m q))
+    behind : (o : Option ℕ) → index_of s ks ≡ o → one_on o ≡ Some n → eqb s k.segment ≡ false → ((m : ℕ) → index_of s ks ≡ Some m → Indexed s ks m) → Indexed s (k ∷ ks) n
+    behind None q f t next = apart cc
+    behind (Some m) q f t next = let z : suc m ≡ n = cc in subst (Indexed s (k ∷ ks)) z (indexed_later s k ks m t (next m q))
 
-pub index_none : (s : ℕ) (ks : List Copy) → index_of s ks ≡ none → copy_of s ks ≡ none
+pub index_none : (s : ℕ) (ks : List Copy) → index_of s ks ≡ None → copy_of s ks ≡ None
 unfolding index_of copy_of
 index_none s [] e = refl
 index_none s (k ∷ ks) e =
-    by (eqb s k.segment) (λ t. let f : some 0 ≡ none = rw t at e in apart cc)
-    (λ t. let f : one_on (index_of s ks) ≡ none = rw t at e in rw t (index_none s ks (behind (index_of s ks) f)))
+    by (eqb s k.segment) (λ t. let f : Some 0 ≡ None = rw t at e in apart cc)
+    (λ t. let f : one_on (index_of s ks) ≡ None = rw t at e in rw t (index_none s ks (behind (index_of s ks) f)))
   where
-    behind : (o : Option ℕ) → one_on o ≡ none → o ≡ none
-    behind none f = refl
-    behind (some m) f = apart cc
+    behind : (o : Option ℕ) → one_on o ≡ None → o ≡ None
+    behind None f = refl
+    behind (Some m) f = apart cc
 
 -- ---- block 0 has only the segments' numbers
-segment_set : (s : ℕ) (c h : Content) (ks : List Copy) (n m : ℕ) → get_elem? ks n ≡ some (record { segment = s; held = h })
-    → segment_of (get_elem? (set ks n (record { segment = s; held = c })) m) ≡ segment_of (get_elem? ks m)
+segment_set : (s : ℕ) (c h : Content) (ks : List Copy) (n m : ℕ) → slice_get ks n ≡ Some (record { segment = s; held = h })
+    → segment_of (slice_get (set ks n (record { segment = s; held = c })) m) ≡ segment_of (slice_get ks m)
 segment_set s c h [] n m e = refl
-segment_set s c h (k ∷ ks) zero zero e = let f : some k ≡ some (record { segment = s; held = h }) = e in ap segment_of (sym f)
+segment_set s c h (k ∷ ks) zero zero e = let f : Some k ≡ Some (record { segment = s; held = h }) = e in ap segment_of (sym f)
 segment_set s c h (k ∷ ks) zero (suc m) e = refl
 segment_set s c h (k ∷ ks) (suc n) zero e = refl
 segment_set s c h (k ∷ ks) (suc n) (suc m) e = segment_set s c h ks n m e
@@ -131,24 +132,24 @@ module _ (l : List ℕ) (b : Book) (lies : Lies l b) (k : ℕ) (ks : List Copy) 
   n_low : n < length ks
   n_low = get_low ks n v.here
 
-  new_here : held_of (get_elem? (recopy s c ks) n) ≡ some c
-  new_here = ap (λ (r : List Copy). held_of (get_elem? r n)) (v.again c x) ∙ ap held_of (get_same ks n (record { segment = s; held = c }) n_low)
+  new_here : held_of (slice_get (recopy s c ks) n) ≡ Some c
+  new_here = ap (λ (r : List Copy). held_of (slice_get r n)) (v.again c x) ∙ ap held_of (get_same ks n (record { segment = s; held = c }) n_low)
 
-  new_other : (m : ℕ) → m ≢ n → held_of (get_elem? (recopy s c ks) m) ≡ held_of (get_elem? ks m)
-  new_other m h = ap (λ (r : List Copy). held_of (get_elem? r m)) (v.again c x) ∙ ap held_of (get_other ks n m (record { segment = s; held = c }) h)
+  new_other : (m : ℕ) → m ≢ n → held_of (slice_get (recopy s c ks) m) ≡ held_of (slice_get ks m)
+  new_other m h = ap (λ (r : List Copy). held_of (slice_get r m)) (v.again c x) ∙ ap held_of (get_other ks n m (record { segment = s; held = c }) h)
 
   bytes_same : draft_bytes new ≡ draft_bytes (get_or b.drafts k closed)
   bytes_same =
       ap₂ (λ (f g : ℕ). 1 ∷ f ∷ g ∷ bit stale ∷ [])
-      (ap (λ (r : List Copy). segment_of (get_elem? r 0)) (v.again c x) ∙ segment_set s c v.held ks n 0 v.here)
-      (ap (λ (r : List Copy). segment_of (get_elem? r 1)) (v.again c x) ∙ segment_set s c v.held ks n 1 v.here)
+      (ap (λ (r : List Copy). segment_of (slice_get r 0)) (v.again c x) ∙ segment_set s c v.held ks n 0 v.here)
+      (ap (λ (r : List Copy). segment_of (slice_get r 1)) (v.again c x) ∙ segment_set s c v.held ks n 1 v.here)
       ∙ ap draft_bytes (sym opened)
 
-  old_copy : (m : ℕ) → held_in b (copy k m) ≡ held_of (get_elem? ks m)
+  old_copy : (m : ℕ) → held_in b (copy k m) ≡ held_of (slice_get ks m)
   unfolding held_in
-  old_copy m = ap (λ (d : Draft). held_of (get_elem? (copies_of d) m)) (or_closed_lem b.drafts k ∙ opened)
+  old_copy m = ap (λ (d : Draft). held_of (slice_get (copies_of d) m)) (or_closed_lem b.drafts k ∙ opened)
 
-  here : (j : ℕ) → j ≡ at_copy → parts_in later_book j ≡ some c
+  here : (j : ℕ) → j ≡ at_copy → parts_in later_book j ≡ Some c
   here j z =
       let e : suc j ≡ 9 + 2 * k + n = omega arith in
       ap (held_in later_book) (ap part_of e ∙ part_copy k n low two) ∙ held_new b k new in_drafts n ∙ new_here
@@ -161,11 +162,11 @@ module _ (l : List ℕ) (b : Book) (lies : Lies l b) (k : ℕ) (ks : List Copy) 
       let apart : m ≢ n = λ z. d (omega (arith, q.0)) in
       new_other m apart ∙ sym (ap (held_in b) e ∙ old_copy m)
 
-  pub changed_lies : Lies (put_block (9 + 2 * k + n) (holding (some c)) l) (with_drafts b (set b.drafts k (working (recopy s c ks) stale)))
+  pub changed_lies : Lies (put_block (9 + 2 * k + n) (holding (Some c)) l) (with_drafts b (set b.drafts k (working (recopy s c ks) stale)))
   changed_lies =
       let e : suc at_copy ≡ 9 + 2 * k + n = omega arith in
-      let stands = stands_put (lies_stands l b lies) at_copy (holding (some c)) (some c) (omega arith) (used_length c few) refl in
-      subst (λ (i : ℕ). Lies (put_block i (holding (some c)) l) later_book) e
+      let stands = stands_put (lies_stands l b lies) at_copy (holding (Some c)) (Some c) (omega arith) (used_length c few) refl in
+      subst (λ (i : ℕ). Lies (put_block i (holding (Some c)) l) later_book) e
       (stands_lies stands later_book (length-set b.drafts k new ∙ lies.four) lies.sixteen
       (λ i g. ap (λ (z : List ℕ). get_or z i 0) (sym (index_same b k new bytes_same)))
-      (λ i g. upd_at (parts_in b) at_copy (some c) i (parts_in later_book i) (λ q. sym (here i q)) (λ d. sym (there i d))))
+      (λ i g. upd_at (parts_in b) at_copy (Some c) i (parts_in later_book i) (λ q. sym (here i q)) (λ d. sym (there i d))))

@@ -5,7 +5,7 @@ use mathlib.Core.Path.{◌≡◌, sym, ap, ap₂, ◌∙◌}
 use mathlib.Core.Logic.{◌≢◌}
 use mathlib.Core.List.{List}
 use mathlib.Core.Bool.{Bool, true, false, cond, not}
-use mathlib.Core.Option.{none, some}
+use Rattle.std.specs.Prelude.{None, Some}
 use lib.ListN.{length, get_or}
 use lib.Dec.{eqb, leb}
 use borrow.Author.Tests.{eqb-true, eqb-false, eq-eqb, ne_eqb, le-leb, lt-leb, not-true, not-false}
@@ -105,7 +105,7 @@ module _ (l : List ℕ) (d : ℕ) (r : Bool) (s : ℕ) where
 
 -- ---- the copy of a segment, by the two numbers
 two_copies : (l : List ℕ) (first second k s : ℕ) → 1 ≤ s → (first ≡ 0 → second ≡ 0)
-    → index_of s (copies_at l first second k) ≡ cond (eqb s first) (some 0) (cond (eqb s second) (some 1) none)
+    → index_of s (copies_at l first second k) ≡ cond (eqb s first) (Some 0) (cond (eqb s second) (Some 1) None)
 unfolding index_of
 two_copies l first second k s h need =
     by (eqb first 0)
@@ -120,7 +120,7 @@ two_copies l first second k s h need =
 
 module _ (l : List ℕ) where
   taken_is : (k s : ℕ) → k < 4 → 1 ≤ s → is_sound l ≡ true → is_open (draft_of l k) ≡ true
-      → index_of s (copies_of (draft_of l k)) ≡ cond (eqb s (get_or l (9 + 4 * k) 0)) (some 0) (cond (eqb s (get_or l (10 + 4 * k) 0)) (some 1) none)
+      → index_of s (copies_of (draft_of l k)) ≡ cond (eqb s (get_or l (9 + 4 * k) 0)) (Some 0) (cond (eqb s (get_or l (10 + 4 * k) 0)) (Some 1) None)
   unfolding draft_of
   taken_is k s h g e o =
       let says = draft_cases l (sound_parts l e) k h in
@@ -136,7 +136,7 @@ module _ (l : List ℕ) where
     admitted_segment = by_order s 1 (λ h. apart (let e = there_zero l s h ∙ a.there in cc)) (λ h. h)
 
   copy_block_is : (d s : ℕ) → Admitted l d s
-      → copy_block l d s ≡ block_in d (cond (eqb s (get_or l (4 * d + 5) 0)) (some 0) (cond (eqb s (get_or l (4 * d + 6) 0)) (some 1) none))
+      → copy_block l d s ≡ block_in d (cond (eqb s (get_or l (4 * d + 5) 0)) (Some 0) (cond (eqb s (get_or l (4 * d + 6) 0)) (Some 1) None))
   unfolding copy_block
   copy_block_is zero s a = let h = admitted_from zero s a in impossible (omega arith)
   copy_block_is (suc k) s a =
@@ -146,14 +146,14 @@ module _ (l : List ℕ) where
       let j : 4 * suc k + 6 ≡ 10 + 4 * k = omega arith in
       ap (λ (x : Draft). block_in (suc k) (index_of s (copies_of x))) (draft_of_lem l k low)
       ∙ ap (block_in (suc k)) (taken_is k s low (admitted_segment (suc k) s a) a.sound o
-      ∙ sym (ap₂ (λ (p q : ℕ). cond (eqb s (get_or l p 0)) (some 0) (cond (eqb s (get_or l q 0)) (some 1) none)) i j))
+      ∙ sym (ap₂ (λ (p q : ℕ). cond (eqb s (get_or l p 0)) (Some 0) (cond (eqb s (get_or l q 0)) (Some 1) None)) i j))
 
   -- the ways out
   module _ (d s : ℕ) (a : Admitted l d s) (first : ℕ) (is-first : first ≡ get_or l (4 * d + 5) 0) where
     pub find_first : first ≡ s → paper_copy (found.Copy (2 * d + 7)) ≡ copy_block l d s
     find_first e =
         let n : 2 * d + 7 ≡ 7 + 2 * d + 0 = omega arith in
-        ap some n ∙ sym (copy_block_is d s a ∙ rw (eq-eqb s (get_or l (4 * d + 5) 0) (sym e ∙ is-first)))
+        ap Some n ∙ sym (copy_block_is d s a ∙ rw (eq-eqb s (get_or l (4 * d + 5) 0) (sym e ∙ is-first)))
 
     module _ (other : first ≡ s → ⊥) (second : ℕ) (is-second : second ≡ get_or l (4 * d + 6) 0) where
       no : s ≡ get_or l (4 * d + 5) 0 → ⊥
@@ -162,7 +162,7 @@ module _ (l : List ℕ) where
       pub find_second : second ≡ s → paper_copy (found.Copy (2 * d + 8)) ≡ copy_block l d s
       find_second e =
           let n : 2 * d + 8 ≡ 7 + 2 * d + 1 = omega arith in
-          ap some n ∙ sym (copy_block_is d s a ∙ rw (ne_eqb s (get_or l (4 * d + 5) 0) no, eq-eqb s (get_or l (4 * d + 6) 0) (sym e ∙ is-second)))
+          ap Some n ∙ sym (copy_block_is d s a ∙ rw (ne_eqb s (get_or l (4 * d + 5) 0) no, eq-eqb s (get_or l (4 * d + 6) 0) (sym e ∙ is-second)))
 
       pub find_none : (second ≡ s → ⊥) → paper_copy found.NotTaken ≡ copy_block l d s
       find_none e =

@@ -4,8 +4,9 @@ use native.Mathlib.Omega.{arith}
 use mathlib.Core.Path.{◌≡◌, refl, sym, ap, subst, ◌∙◌}
 use mathlib.Core.List.{List}
 use mathlib.Core.Bool.{Bool, true}
-use mathlib.Core.Option.{none, some}
-use lib.ListN.{length, get_or, get_elem?, set, take-append-drop}
+use Rattle.std.specs.Prelude.{None, Some}
+use lib.ListN.{length, get_or, set, take-append-drop}
+use Rattle.std.specs.Prelude.{slice_get}
 use lib.Seq.{set-get_or}
 use Rattle.laws.proofs.Tests.{apart}
 use Rattle.laws.proofs.Lists.{all_get, all_found}
@@ -73,7 +74,7 @@ fine_taken closed_fine e = apart cc
 fine_taken {issue} {n} (working_fine f) e = subst (TakenBy issue n) e f
 
 module _ (l : List ℕ) (base : Base l) (k : ℕ) (ks : List Copy) (stale : Bool) (low : k < 4) (opened : get_or (book_of l).drafts k closed ≡ working ks stale)
-    (s : ℕ) (c₀ : Content) (there : at (book_of l).segments s ≡ some c₀) where
+    (s : ℕ) (c₀ : Content) (there : at (book_of l).segments s ≡ Some c₀) where
   abbrev b : Book
   b = book_of l
 
@@ -88,7 +89,7 @@ module _ (l : List ℕ) (base : Base l) (k : ℕ) (ks : List Copy) (stale : Bool
 
   module _ (e : Edit) (r : in_range (editing e) ≡ true) where
     -- 16
-    module _ (absent : copy_of s ks ≡ none) where
+    module _ (absent : copy_of s ks ≡ None) where
       nothing : on_bytes l (on (suc k) s (editing e)) ≡ (refused not_taken 0, l)
       nothing = book_refused l (on (suc k) s (editing e)) base.lies.long base.sound 16 0 (on_absent b (suc k) ks stale there_at s c₀ there e r absent)
 
@@ -99,7 +100,7 @@ module _ (l : List ℕ) (base : Base l) (k : ℕ) (ks : List Copy) (stale : Bool
       absent_bytes = ap (λ (x : BookAnswer × List ℕ). x.1) nothing
 
     -- a copy
-    module _ (h : Content) (copied : copy_of s ks ≡ some h) where
+    module _ (h : Content) (copied : copy_of s ks ≡ Some h) where
       found : (q : Answer (Value × Content)) → edit_rule b.issue e h ≡ q
           → on_bytes l (on (suc k) s (editing e)) ≡ ((settle h q).0, bytes_of (with_drafts b (set b.drafts k (working (recopy s (settle h q).1 ks) stale))))
       found (ok z) q =
@@ -125,13 +126,13 @@ module _ (l : List ℕ) (base : Base l) (k : ℕ) (ks : List Copy) (stale : Bool
           ∙ same_bytes
 
       pub copy_stored : (n : ℕ) → n < 2 → Indexed s ks n → length (edited b.issue e h).1.places ≤ capacity
-          → (on_bytes l (on (suc k) s (editing e))).1 ≡ put_block (9 + 2 * k + n) (holding (some (edited b.issue e h).1)) l
+          → (on_bytes l (on (suc k) s (editing e))).1 ≡ put_block (9 + 2 * k + n) (holding (Some (edited b.issue e h).1)) l
       copy_stored n two v few =
           let c : Content = (edited b.issue e h).1 in
           let new = changed_lies l b base.lies k ks stale low opened s n two v taken.distinct c few in
-          let first : block_of 0 (put_block (9 + 2 * k + n) (holding (some c)) l) ≡ block_of 0 l =
-          put_other_block 49 (9 + 2 * k + n) l (holding (some c)) (omega arith) base.lies.long (used_length c few) 0 (omega arith) (λ z. omega (arith, z)) in
-          copy_bytes ∙ sym (own_bytes (put_block (9 + 2 * k + n) (holding (some c)) l)
+          let first : block_of 0 (put_block (9 + 2 * k + n) (holding (Some c)) l) ≡ block_of 0 l =
+          put_other_block 49 (9 + 2 * k + n) l (holding (Some c)) (omega arith) base.lies.long (used_length c few) 0 (omega arith) (λ z. omega (arith, z)) in
+          copy_bytes ∙ sym (own_bytes (put_block (9 + 2 * k + n) (holding (Some c)) l)
           (with_drafts b (set b.drafts k (working (recopy s c ks) stale))) new (ap sealed first ∙ base.seal ∙ sym first))
 
   -- the copy's block
@@ -142,7 +143,7 @@ module _ (l : List ℕ) (base : Base l) (k : ℕ) (ks : List Copy) (stale : Bool
     pub copy_fine : is_content b.issue v.held ≡ true
     copy_fine = (all_found n taken.copies v.here).fine
 
-    pub copy_block_lem : block_of (9 + 2 * k + n) l ≡ holding (some v.held)
+    pub copy_block_lem : block_of (9 + 2 * k + n) l ≡ holding (Some v.held)
     unfolding block_bytes held_in
     copy_block_lem =
         let i : ℕ = 8 + 2 * k + n in
@@ -150,5 +151,5 @@ module _ (l : List ℕ) (base : Base l) (k : ℕ) (ks : List Copy) (stale : Bool
         ap (λ (i : ℕ). block_of i l) e ∙ base.lies.blocks (8 + 2 * k + n) (omega (arith, copy_two))
         ∙ ap (λ (i : ℕ). holding (held_in b (part_of i))) (sym e)
         ∙ ap (λ p. holding (held_in b p)) (part_copy k n low copy_two)
-        ∙ ap (λ (d : Draft). holding (held_of (get_elem? (copies_of d) n))) (or_closed_lem b.drafts k ∙ opened)
+        ∙ ap (λ (d : Draft). holding (held_of (slice_get (copies_of d) n))) (or_closed_lem b.drafts k ∙ opened)
         ∙ ap (λ o. holding (held_of o)) v.here

@@ -1,6 +1,6 @@
 -- Serves the code: what every work of a draft on a segment asks first, of the refusals that document 01 numbers.
 use Rattle.std.specs.Prelude.{ℕ, Bool, true, false, List, length, eqb}
-use Rattle.std.proofs.Math.Option.{Option, none, some}
+use Rattle.std.specs.Prelude.{Option, None, Some}
 use Rattle.refusal.specs.Numbers.{wrong_length, not_sound, no_draft, no_such_segment, out_of_range}
 use Rattle.refusal.specs.Answer.{Answer, must, and_then}
 use Rattle.codes.specs.Block.{Content}
@@ -14,8 +14,8 @@ is_open closed = false
 is_open (working ks stale) = true
 
 abbrev pub exists : Option Content → Bool
-exists none = false
-exists (some c) = true
+exists None = false
+exists (Some c) = true
 
 -- "Book calls: 1, 12, 13, 24 (place or time), 15"
 unfoldable pub admission : List ℕ → ℕ → Bool → ℕ → Answer Unit

@@ -5,8 +5,9 @@ use mathlib.Core.Path.{◌≡◌, refl, sym, ap, subst, ◌∙◌}
 use mathlib.Core.Logic.{◌≢◌}
 use mathlib.Core.List.{List, [], ◌∷◌}
 use mathlib.Core.Bool.{Bool, true, false, not}
-use mathlib.Core.Option.{none, some}
-use lib.ListN.{length, get_or, get_elem?}
+use Rattle.std.specs.Prelude.{None, Some}
+use lib.ListN.{length, get_or}
+use Rattle.std.specs.Prelude.{slice_get}
 use borrow.Author.Tests.{ne_eqb, not-true, not-false}
 use Rattle.laws.proofs.Tests.{apart}
 use Rattle.refusal.specs.Numbers.{wrong_length, not_sound, all_open}
@@ -44,7 +45,7 @@ unfolding book_of upward
 four_drafts l = refl
 
 module _ (l : List ℕ) (n k : ℕ) (ds : List Draft) where
-  lowest_here : get_or l (8 + 4 * k) 0 ≡ 0 → lowest n (draft_of l k ∷ ds) ≡ some n
+  lowest_here : get_or l (8 + 4 * k) 0 ≡ 0 → lowest n (draft_of l k ∷ ds) ≡ Some n
   unfolding lowest
   lowest_here e = ap (λ (x : Draft). lowest n (x ∷ ds)) (draft_shut l k e)
 
@@ -86,9 +87,9 @@ record Closed (n : ℕ) (ds : List Draft) (d : ℕ) : Type 0 where
   k : ℕ
   is : d ≡ n + k
   low : k < length ds
-  shut : get_elem? ds k ≡ some closed
+  shut : slice_get ds k ≡ Some closed
 
-closed_at : (n : ℕ) (ds : List Draft) (d : ℕ) → lowest n ds ≡ some d → Closed n ds d
+closed_at : (n : ℕ) (ds : List Draft) (d : ℕ) → lowest n ds ≡ Some d → Closed n ds d
 unfolding lowest
 closed_at n [] d e = apart cc
 closed_at n (closed ∷ ds) d e = let z : n ≡ d = cc in record { k = 0; is = omega arith; low = omega arith; shut = refl }
@@ -105,7 +106,7 @@ module _ (l : List ℕ) (long : length l ≡ book_length) (sound : Bool) (is-sou
   -- 14
   pub open_none : (y : Bytes l) (r : Reply) → w ≡ code.Nothing → r ≡ reply.Refused (refusal_for all_open 0) → Does l l opening r
   open_none y r e q =
-      let none-closed : lowest 1 (book_of l).drafts ≡ none = sym is-lowest ∙ ap paper_lowest e in
+      let none-closed : lowest 1 (book_of l).drafts ≡ None = sym is-lowest ∙ ap paper_lowest e in
       does_refused l opening r long t 14 0 (order.open_none (book_of l) none-closed) (ap paper_reply q)
 
   -- a draft is closed
@@ -128,7 +129,7 @@ module _ (l : List ℕ) (long : length l ≡ book_length) (sound : Bool) (is-sou
         → ((b : Book) → Lies l b → draft_at b.drafts d ≡ closed → Lies m (with_drafts b (put b.drafts d (working [] false))))
         → (z : List ℕ) → ((b : Book) → Lies m b → z ≡ bytes_of b) → Does l z opening (reply.Draft d)
     open_does y m opened z sealed =
-        let one-closed : lowest 1 (book_of l).drafts ≡ some d = sym is-lowest ∙ ap paper_lowest is in
+        let one-closed : lowest 1 (book_of l).drafts ≡ Some d = sym is-lowest ∙ ap paper_lowest is in
         let after : Book = with_drafts (book_of l) (put (book_of l).drafts d (working [] false)) in
         does_step l z opening (reply.Draft d) long t (draft d) after (order.open_lowest (book_of l) d one-closed) refl
         (sealed after (opened (book_of l) (sound_lies l y t) open_shut))

@@ -4,7 +4,7 @@ use native.Mathlib.Omega.{arith}
 use mathlib.Core.Path.{◌≡◌, refl, sym, ap, ap₂, subst, ◌∙◌}
 use mathlib.Core.List.{List, [], ◌∷◌, ◌++◌}
 use mathlib.Core.Bool.{Bool, true, false}
-use mathlib.Core.Option.{Option, none, some}
+use Rattle.std.specs.Prelude.{Option, None, Some}
 use lib.ListN.{length, get_or}
 use borrow.Author.Tests.{le-ltb, lt-ltb}
 use Rattle.laws.proofs.Tests.{by_order, impossible, apart}
@@ -102,7 +102,7 @@ module _ (l : List ℕ) (d s : ℕ) (v : Verdict) (is : v ≡ Accepted) (says : 
   take_segment_to = segment_to l s take_admitted.sound take_admitted.there
 
 -- ---- what a take does, by the draft's copies
-module _ (l : List ℕ) (base : Base l) (long : length l ≡ book_length) (d s : ℕ) (o : Opened (book_of l).drafts d) (c : Content) (there : at (book_of l).segments s ≡ some c) where
+module _ (l : List ℕ) (base : Base l) (long : length l ≡ book_length) (d s : ℕ) (o : Opened (book_of l).drafts d) (c : Content) (there : at (book_of l).segments s ≡ Some c) where
   stays : (n p : ℕ) (r : Reply) → book_rule (book_of l) (on d s taking) ≡ no n p → paper_reply r ≡ no n p → Does l l (on d s taking) r
   stays n p r e q = does_refused l (on d s taking) r long base.sound n p e q
 
@@ -123,13 +123,13 @@ module _ (l : List ℕ) (base : Base l) (long : length l ≡ book_length) (d s :
 
 -- ---- the ways out
 -- the copy that was sought
-block_some : (d k : ℕ) (i : Option ℕ) → block_in d i ≡ some k → (n : ℕ) × (i ≡ some n)
-block_some d k none e = apart cc
-block_some d k (some n) e = (n, refl)
+block_some : (d k : ℕ) (i : Option ℕ) → block_in d i ≡ Some k → (n : ℕ) × (i ≡ Some n)
+block_some d k None e = apart cc
+block_some d k (Some n) e = (n, refl)
 
-block_none : (d : ℕ) (i : Option ℕ) → block_in d i ≡ none → i ≡ none
-block_none d none e = refl
-block_none d (some n) e = apart cc
+block_none : (d : ℕ) (i : Option ℕ) → block_in d i ≡ None → i ≡ None
+block_none d None e = refl
+block_none d (Some n) e = apart cc
 
 module _ (l : List ℕ) (y : Bytes l) (d s : ℕ) (v : Verdict) (is : v ≡ Accepted) (says : paper_verdict v ≡ admission l d true s)
     (f : Found) (is_at : paper_copy f ≡ copy_block l d s) where
@@ -142,7 +142,7 @@ module _ (l : List ℕ) (y : Bytes l) (d s : ℕ) (v : Verdict) (is : v ≡ Acce
   o : Opened (book_of l).drafts d
   o = opened_at (book_of l).drafts d a.opened
 
-  c : (c : Content) × (at (book_of l).segments s ≡ some c)
+  c : (c : Content) × (at (book_of l).segments s ≡ Some c)
   c = some_of (at (book_of l).segments s) a.there
 
   sought : paper_copy f ≡ block_in d (index_of s o.ks)
@@ -170,7 +170,7 @@ module _ (l : List ℕ) (y : Bytes l) (d s : ℕ) (v : Verdict) (is : v ≡ Acce
 
     pub take_does : n < 2 → (m : List ℕ)
         → ((b : Book) → Lies l b → (ks : List Copy) (stale : Bool) (c : Content) → draft_at b.drafts d ≡ working ks stale → length ks ≡ n
-        → at b.segments s ≡ some c → Lies m (with_drafts b (put b.drafts d (working (ks ++ (record { segment = s; held = c } ∷ [])) stale))))
+        → at b.segments s ≡ Some c → Lies m (with_drafts b (put b.drafts d (working (ks ++ (record { segment = s; held = c } ∷ [])) stale))))
         → (z : List ℕ) → ((b : Book) → Lies m b → z ≡ bytes_of b) → Does l z (on d s taking) reply.Done
     take_does h m took z sealed =
         let after : Book = with_drafts (book_of l) (put (book_of l).drafts d (working (o.ks ++ (record { segment = s; held = c.0 } ∷ [])) o.stale)) in

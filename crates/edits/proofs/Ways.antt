@@ -5,7 +5,7 @@ use native.Mathlib.Omega.{arith}
 use mathlib.Core.Path.{◌≡◌, sym, ap, subst, ◌∙◌}
 use mathlib.Core.List.{List}
 use mathlib.Core.Bool.{Bool, true, false, not}
-use mathlib.Core.Option.{some}
+use Rattle.std.specs.Prelude.{Some}
 use lib.ListN.{length, take, drop}
 use lib.Seq.{length-take-le}
 use lib.Dec.{eqb, ltb}
@@ -82,7 +82,7 @@ module _ (l : List ℕ) (d s k : ℕ) (w : Works l d s k) (h : Held) (f : Fits h
         }
 
     -- the content c is stored
-    stored_does : (c : Content) → edited issue e held ≡ (paper_reply a, c) → length c.places ≤ capacity → (m : List ℕ) → m ≡ put_block k (holding (some c)) l
+    stored_does : (c : Content) → edited issue e held ≡ (paper_reply a, c) → length c.places ≤ capacity → (m : List ℕ) → m ≡ put_block k (holding (Some c)) l
         → Does l m (on d s (editing e)) a
     stored_does c q few m z =
         let same : (edited issue e (content_of (block_of k l))).1 ≡ c = ap (λ (c : Content). (edited issue e c).1) (sym is) ∙ ap (λ (x : BookAnswer × Content). x.1) q in
@@ -90,7 +90,7 @@ module _ (l : List ℕ) (d s k : ℕ) (w : Works l d s k) (h : Held) (f : Fits h
           answer = sym (ap (λ (x : BookAnswer × Content). x.0) q) ∙ answer_at l d s k w h is e r;
           left =
               z ∙ sym (w.stored e r (subst (λ (c : Content). length c.places ≤ capacity) (sym same) few)
-              ∙ ap (λ (c : Content). put_block k (holding (some c)) l) same);
+              ∙ ap (λ (c : Content). put_block k (holding (Some c)) l) same);
         }
 
   pub held_up : ascends 0 (take h.count h.places) ≡ true
@@ -111,12 +111,12 @@ module _ (l : List ℕ) (d s k : ℕ) (w : Works l d s k) (h : Held) (f : Fits h
         (ap (settle held) (order.purge_none issue held time (given ∙ ap paper_moment nothing)) ∙ ap (λ (r : Reply). (paper_reply r, held)) (sym e))
 
     pub purge_some : (minute : ℕ) → m ≡ moment.At minute → (p : ℕ) → p ≡ minute
-        → (n : List ℕ) → n ≡ put_block k (holding (some (held_content (record { purge = p; places = h.places; count = h.count })))) l
+        → (n : List ℕ) → n ≡ put_block k (holding (Some (held_content (record { purge = p; places = h.places; count = h.count })))) l
         → Does l n (on d s (editing (set_purge time))) (reply.Number minute)
     purge_some minute at p e n q =
         stored_does (set_purge time) in_time (reply.Number minute) (record { purge = minute; places = take h.count h.places })
         (ap (settle held) (purge_given issue held time minute (given ∙ ap paper_moment at))) (omega (arith, count_is h f, f.few)) n
-        (q ∙ ap (λ (i : ℕ). put_block k (holding (some (held_content (record { purge = i; places = h.places; count = h.count })))) l) e)
+        (q ∙ ap (λ (i : ℕ). put_block k (holding (Some (held_content (record { purge = i; places = h.places; count = h.count })))) l) e)
 
   -- add, remove: q is the place p
   module _ (p q : ℕ) (same : q ≡ p) (range : ltb p places_end ≡ true) (t : Bool) (is-there : t ≡ member q (take h.count h.places)) where
@@ -141,7 +141,7 @@ module _ (l : List ℕ) (d s k : ℕ) (w : Works l d s k) (h : Held) (f : Fits h
           (ap (settle held) (order.add_full issue held p (there ∙ u) (room_is false (le-ltb h.count capacity full))) ∙ ap (λ (r : Reply). (paper_reply r, held)) (sym e))
 
       pub add_new : h.count < capacity → (g : Held) → held_content g ≡ record { purge = h.purge; places = insert q (take h.count h.places) } → Fits g
-          → (m : List ℕ) → m ≡ put_block k (holding (some (held_content g))) l → Does l m (on d s (editing (add p))) (reply.Was false)
+          → (m : List ℕ) → m ≡ put_block k (holding (Some (held_content g))) l → Does l m (on d s (editing (add p))) (reply.Was false)
       add_new room g e fg =
           stored_does (add p) range (reply.Was false) (held_content g)
           (ap (settle held) (order.add_new issue held p (there ∙ u) (room_is true (lt-ltb h.count capacity room)))
@@ -162,7 +162,7 @@ module _ (l : List ℕ) (d s k : ℕ) (w : Works l d s k) (h : Held) (f : Fits h
           (ap (settle held) (order.remove_only issue held p (there ∙ not-false t u) (one_is true (eq-eqb h.count 1 only))) ∙ ap (λ (r : Reply). (paper_reply r, held)) (sym e))
 
       pub remove_old : (h.count ≡ 1 → ⊥) → (g : Held) → held_content g ≡ record { purge = h.purge; places = without q (take h.count h.places) } → Fits g
-          → (m : List ℕ) → m ≡ put_block k (holding (some (held_content g))) l → Does l m (on d s (editing (remove p))) (reply.Was true)
+          → (m : List ℕ) → m ≡ put_block k (holding (Some (held_content g))) l → Does l m (on d s (editing (remove p))) (reply.Was true)
       remove_old more g e fg =
           stored_does (remove p) range (reply.Was true) (held_content g)
           (ap (settle held) (remove_there issue held p (there ∙ not-false t u) (one_is false (ne_eqb h.count 1 more)))
@@ -174,6 +174,6 @@ pub minute_low : (issue : ℕ) (time : Stamp) (m : Moment) (minute : ℕ) → pa
 minute_low issue time m minute e q = let h = purge_low issue time minute (sym e ∙ ap paper_moment q) in omega arith
 
 -- a part of an array, from its start on
-pub stored_part : (l m : List ℕ) (k purge count : ℕ) (places : List ℕ) → m ≡ put_block k (holding (some (record { purge = purge; places = take (count - 0) (drop 0 places) }))) l
-    → m ≡ put_block k (holding (some (record { purge = purge; places = take count places }))) l
-stored_part l m k purge count places e = e ∙ ap (λ (n : ℕ). put_block k (holding (some (record { purge = purge; places = take n places }))) l) (sub-zero count)
+pub stored_part : (l m : List ℕ) (k purge count : ℕ) (places : List ℕ) → m ≡ put_block k (holding (Some (record { purge = purge; places = take (count - 0) (drop 0 places) }))) l
+    → m ≡ put_block k (holding (Some (record { purge = purge; places = take count places }))) l
+stored_part l m k purge count places e = e ∙ ap (λ (n : ℕ). put_block k (holding (Some (record { purge = purge; places = take n places }))) l) (sub-zero count)

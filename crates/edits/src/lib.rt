@@ -2,7 +2,7 @@
 #![tactic(auto)]
 
 ghost use Rattle.std.specs.Prelude.{◌≡◌, true, false, ◌<◌, length};
-ghost use Rattle.std.proofs.Math.Option.{some};
+ghost use Rattle.std.specs.Prelude.{Some};
 ghost use Rattle.codes.specs.Places.{capacity, ascends};
 ghost use Rattle.codes.specs.Block.{insert};
 ghost use Rattle.blocks.specs.Block.{book_length, block_count, put_block};
@@ -104,7 +104,7 @@ fn narrow(n: usize) -> u32
 fn store_held(book: &mut [u8], k: usize, h: Held)
     requires book_len { (length book.old ≡ book_length) × (k < block_count) }
     requires fits { Fits h }
-    ensures { book.new ≡ put_block k (holding (some (held_content h))) book.old }
+    ensures { book.new ≡ put_block k (holding (Some (held_content h))) book.old }
 {
     let places = h.places;
     let count = h.count;

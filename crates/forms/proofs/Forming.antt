@@ -5,7 +5,7 @@ use native.Mathlib.Numerals.{add-one}
 use native.Mathlib.Omega.{arith}
 use mathlib.Core.Path.{◌≡◌, refl, sym, ap, ap₂, ◌∙◌}
 use mathlib.Core.Bool.{true}
-use mathlib.Core.Option.{Option, none, some}
+use Rattle.std.specs.Prelude.{Option, None, Some}
 use mathlib.Core.List.{List, [], ◌∷◌, ◌++◌, map, append_assoc, append-nil, map-append}
 use lib.ListN.{length, take, drop, get_or, set, length-append, length-drop, length-map, length-set, drop_of_length-le, get_or-map}
 use lib.Seq.{sets, sets-eq, get_or-take, take_all, take-suc, take-suc-set, length-sets, length-take-le, take-append_seam, drop-drop}
@@ -58,8 +58,8 @@ some_block e f ps minute block h =
     by (is_set ps) (λ q. dated q (date_of minute) refl (rw q at h)) (λ q. let z : refused out_of_range 0 ≡ ok block = rw q at h in apart cc)
   where
     dated : is_set ps ≡ true → (d : Option Date) → date_of minute ≡ d → dated_block e ps d ≡ ok block → SomeBlock f ps minute
-    dated q none t z = apart cc
-    dated q (some d) t z = record { block = form.written f ps d.stamp; given = rw (q, t) }
+    dated q None t z = apart cc
+    dated q (Some d) t z = record { block = form.written f ps d.stamp; given = rw (q, t) }
 
 -- ---- one form
 module _ (l : List ℕ) (b : SoundBook l) (i : ℕ) (low : i < get_or l 4 0) where
@@ -205,8 +205,8 @@ behind_set : (at : ℕ) (l form : List ℕ) → at + length form ≤ length l
 behind_set at l form h =
     let n : length (drop at l) ≡ length l - at = length-drop at l in
     let same : take (length l - at) (drop at l) ≡ drop at l = take_all (length l - at) (drop at l) (omega arith) in
-    let none : drop (length l - at) (drop at l) ≡ [] = drop_of_length-le (drop at l) {i = length l - at} (omega arith) in
-    ap₂ (λ (x y : List ℕ). take at l ++ ((form ++ drop (length form) x) ++ y)) same none
+    let None : drop (length l - at) (drop at l) ≡ [] = drop_of_length-le (drop at l) {i = length l - at} (omega arith) in
+    ap₂ (λ (x y : List ℕ). take at l ++ ((form ++ drop (length form) x) ++ y)) same None
     ∙ ap (λ (x : List ℕ). take at l ++ x) (append-nil _ ∙ ap (λ (x : List ℕ). form ++ x) (drop-drop (length form) at l))
     ∙ sym (append_assoc (take at l) form (drop (at + length form) l))
     ∙ sym (sets-eq form l at h)

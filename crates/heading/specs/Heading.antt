@@ -1,6 +1,6 @@
 -- Document 01, "Text and lines": line 1 and line 2.
 use Rattle.std.specs.Prelude.{ℕ, zero, suc, List, [], ◌∷◌, ◌++◌, Bool, cond, ◌&&◌, ◌||◌, drop}
-use Rattle.std.proofs.Math.Option.{Option, none, some}
+use Rattle.std.specs.Prelude.{Option, None, Some}
 use Prim.Native.String.{String}
 use Rattle.lines.specs.Bytes.{Kind, between, capital, digit, is, word, exactly}
 use Rattle.calendar.specs.Calendar.{is_time}
@@ -36,11 +36,11 @@ pub record Heading : Type 0 where
 
 -- what follows DDHHMM: nothing, or a space and BBB
 abbrev pub bbb_after : List ℕ → Option (List ℕ)
-bbb_after [] = none
-bbb_after (space ∷ bbb) = some bbb
+bbb_after [] = None
+bbb_after (space ∷ bbb) = Some bbb
 
 unfoldable pub heading_of : List ℕ → Option Heading
-heading_of s = cond (is_heading s) (some (record { stamp = stamp_of (drop 12 s); bbb = bbb_after (drop 18 s) })) none
+heading_of s = cond (is_heading s) (Some (record { stamp = stamp_of (drop 12 s); bbb = bbb_after (drop 18 s) })) None
 
 -- ---- line 2: "exactly six bytes. The first four are capitals or digits; each of the last two is a capital, digit or space, and nothing but space follows a space."
 abbrev pub capital_or_digit : Kind

@@ -1,6 +1,6 @@
 -- What the code's answers mean in document 01's values, and what a function inside says of the bytes behind DDHHMM.
 use Rattle.std.specs.Prelude.{ℕ, List, [], ◌∷◌, ◌++◌, Bool, ◌||◌}
-use Rattle.std.proofs.Math.Option.{Option, none, some}
+use Rattle.std.specs.Prelude.{Option, None, Some}
 use Prim.Native.String.{String}
 use Rattle.lines.specs.Bytes.{Kind, bytes, word, begins}
 use Rattle.heading.specs.Heading as heading
@@ -33,15 +33,15 @@ unfoldable pub is_amended : List ℕ → Bool
 is_amended s = begins (bbb_form "AA") s || begins (bbb_form "CC") s || begins (bbb_form "RR") s
 
 abbrev pub paper_bbb : Bbb → Option (List ℕ)
-paper_bbb bbb.Nothing = none
-paper_bbb (bbb.Code a b c) = some (a ∷ b ∷ c ∷ [])
+paper_bbb bbb.Nothing = None
+paper_bbb (bbb.Code a b c) = Some (a ∷ b ∷ c ∷ [])
 
 abbrev pub paper_heading : Heading → heading.Heading
 paper_heading h = record { stamp = h.stamp; bbb = paper_bbb h.bbb }
 
 abbrev pub paper_headed : Headed → Option heading.Heading
-paper_headed (headed.Right h) = some (paper_heading h)
-paper_headed headed.Wrong = none
+paper_headed (headed.Right h) = Some (paper_heading h)
+paper_headed headed.Wrong = None
 
 -- ---- the storm
 abbrev pub paper_basin : Basin → List ℕ
@@ -52,8 +52,8 @@ paper_basin Cp = bytes "CP"
 paper_basin Wp = bytes "WP"
 
 abbrev pub paper_basin_found : BasinFound → Option (List ℕ)
-paper_basin_found (basin.In b) = some (paper_basin b)
-paper_basin_found basin.Nothing = none
+paper_basin_found (basin.In b) = Some (paper_basin b)
+paper_basin_found basin.Nothing = None
 
 abbrev pub paper_class : Class → ClassName
 paper_class Cyclone = cyclone
@@ -62,15 +62,15 @@ paper_class Training = training
 paper_class Disturbance = disturbance
 
 abbrev pub paper_class_found : ClassFound → Option ClassName
-paper_class_found (class.Of c) = some (paper_class c)
-paper_class_found class.Nothing = none
+paper_class_found (class.Of c) = Some (paper_class c)
+paper_class_found class.Nothing = None
 
 abbrev pub paper_id : StormId → StormName
 paper_id id = record { basin = paper_basin id.basin; class = paper_class id.class; number = id.number; year = id.year }
 
 abbrev pub paper_storm : Storm → Option StormName
-paper_storm found.None = none
-paper_storm (found.Found id) = some (paper_id id)
+paper_storm found.None = None
+paper_storm (found.Found id) = Some (paper_id id)
 
 abbrev pub paper_named : Named → StormSaid
 paper_named (named.Right found.None) = no_storm

@@ -1,6 +1,6 @@
 -- Document 01, "Text and lines": the office line and its storm identifier.
 use Rattle.std.specs.Prelude.{ℕ, ◌+◌, ◌-◌, ◌*◌, List, [], ◌∷◌, ◌++◌, Bool, cond, ◌||◌, length, drop}
-use Rattle.std.proofs.Math.Option.{Option, none, some}
+use Rattle.std.specs.Prelude.{Option, None, Some}
 use Prim.Native.String.{String}
 use Rattle.lines.specs.Bytes.{Kind, bytes, between, capital, digit, word, begins, exactly}
 use Rattle.codes.specs.Places.{two_of}
@@ -23,8 +23,8 @@ basin_names = "AL" ∷ "SL" ∷ "EP" ∷ "CP" ∷ "WP" ∷ []
 
 -- the one of these words that stands in front, as its bytes
 abbrev pub in_front : List String → List ℕ → Option (List ℕ)
-in_front [] e = none
-in_front (w ∷ ws) e = cond (begins (word w) e) (some (bytes w)) (in_front ws e)
+in_front [] e = None
+in_front (w ∷ ws) e = cond (begins (word w) e) (Some (bytes w)) (in_front ws e)
 
 unfoldable pub basin_of : List ℕ → Option (List ℕ)
 basin_of e = in_front basin_names e
@@ -38,10 +38,10 @@ pub data ClassName : Type 0 where
 
 unfoldable pub class_of : ℕ → Option ClassName
 class_of n =
-    cond (between 1 49 n) (some cyclone)
-    (cond (between 50 79 n) (some internal)
-    (cond (between 80 89 n) (some training)
-    (cond (between 90 99 n) (some disturbance) none)))
+    cond (between 1 49 n) (Some cyclone)
+    (cond (between 50 79 n) (Some internal)
+    (cond (between 80 89 n) (Some training)
+    (cond (between 90 99 n) (Some disturbance) None)))
 
 -- a storm: its basin's two letters, its class, number and year
 pub record StormName : Type 0 where
@@ -60,9 +60,9 @@ pub data StormSaid : Type 0 where
 
 -- the storm of eight bytes; "four digits of year, any"
 abbrev pub identified : Option (List ℕ) → Option ClassName → ℕ → ℕ → StormSaid
-identified none c n y = refused_storm
-identified (some b) none n y = refused_storm
-identified (some b) (some c) n y = storm (record { basin = b; class = c; number = n; year = y })
+identified None c n y = refused_storm
+identified (Some b) None n y = refused_storm
+identified (Some b) (Some c) n y = storm (record { basin = b; class = c; number = n; year = y })
 
 abbrev pub storm_spelled : List ℕ → StormSaid
 storm_spelled e = identified (basin_of e) (class_of (two_of (drop 2 e))) (two_of (drop 2 e)) (100 * two_of (drop 4 e) + two_of (drop 6 e))

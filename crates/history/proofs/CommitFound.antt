@@ -3,10 +3,11 @@ use mathlib.Core.Path.{◌≡◌, refl, sym, ap, ap₂, ◌∙◌, subst}
 use mathlib.Core.Logic.{◌≢◌}
 use mathlib.Core.Bool.{Bool, true, false, cond, not}
 use mathlib.Core.List.{List, [], ◌∷◌}
-use mathlib.Core.Option.{Option, some}
+use Rattle.std.specs.Prelude.{Option, Some}
 use Prim.Native.Nat.{ℕ, zero, suc, ◌+◌, ◌*◌, ◌≤◌, ◌<◌}
 use native.Mathlib.Omega.{arith}
-use lib.ListN.{length, get_or, get_elem?}
+use lib.ListN.{length, get_or}
+use Rattle.std.specs.Prelude.{slice_get}
 use lib.Dec.{eqb, ltb}
 use borrow.Author.Tests.{eq-eqb, ne_eqb, eqb-true, lt-ltb, le-ltb}
 use Rattle.laws.proofs.Tests.{by, by_order, apart, impossible, and_left, and_right, same_test}
@@ -30,11 +31,11 @@ use Rattle.history.specs.declared.Found.TheVariants as found
 use Rattle.history.specs.Changing.{Placing, Placings, AllPlaced, differing, picked, changes_in, Stands, FindsOne, FindsTwo, Finds}
 
 -- ---- the test of contents
-same_self : (c : Content) → same_content (some c) c ≡ true
+same_self : (c : Content) → same_content (Some c) c ≡ true
 unfolding same_content
 same_self c = rw (eq-eqb c.purge c.purge refl) (same_refl c.places)
 
-same_true : (c e : Content) → same_content (some c) e ≡ true → c ≡ e
+same_true : (c e : Content) → same_content (Some c) e ≡ true → c ≡ e
 unfolding same_content
 same_true c e t =
     let p : c.purge ≡ e.purge = eqb-true c.purge e.purge (and_left (eqb c.purge e.purge) (same_list c.places e.places) t) in
@@ -42,30 +43,30 @@ same_true c e t =
     λ i. record { purge = p i; places = q i }
 
 -- blocks are the same where the contents are
-pub same_blocks_is : (issue : ℕ) (x y : List ℕ) (c e : Content) → Fine issue c → Fine issue e → x ≡ holding (some c) → y ≡ holding (some e) → same_list x y ≡ same_content (some c) e
+pub same_blocks_is : (issue : ℕ) (x y : List ℕ) (c e : Content) → Fine issue c → Fine issue e → x ≡ holding (Some c) → y ≡ holding (Some e) → same_list x y ≡ same_content (Some c) e
 same_blocks_is issue x y c e f g p q =
-    same_test (same_list x y) (same_content (some c) e)
+    same_test (same_list x y) (same_content (Some c) e)
     (λ t.
     let h : c ≡ e = holding_one issue c e f g (sym p ∙ same_list_lem x y t ∙ q) in
-    ap (λ (z : Content). same_content (some z) e) h ∙ same_self e)
+    ap (λ (z : Content). same_content (Some z) e) h ∙ same_self e)
     (λ t.
     let h : c ≡ e = same_true c e t in
-    let r : x ≡ y = p ∙ ap (λ (z : Content). holding (some z)) h ∙ sym q in
+    let r : x ≡ y = p ∙ ap (λ (z : Content). holding (Some z)) h ∙ sym q in
     ap (λ (z : List ℕ). same_list z y) r ∙ same_refl y)
 
 -- of a copy and its segment
 module _ (l : List ℕ) (b : Book) (lies : Lies l b) (sound : Sound b) where
-  decides : (s : ℕ) (e : Content) (k : ℕ) → 1 ≤ s → s ≤ length b.segments → Fine b.issue e → block_of k l ≡ holding (some e)
+  decides : (s : ℕ) (e : Content) (k : ℕ) → 1 ≤ s → s ≤ length b.segments → Fine b.issue e → block_of k l ≡ holding (Some e)
       → same_list (block_of s l) (block_of k l) ≡ same_content (at b.segments s) e
   decides zero e k h g f p = impossible (omega arith)
   decides (suc n) e k h g f p =
       let c : Content = get_or b.segments n blank in
-      let q : get_elem? b.segments n ≡ some c = get_some blank b.segments n (omega arith) in
+      let q : slice_get b.segments n ≡ Some c = get_some blank b.segments n (omega arith) in
       same_blocks_is b.issue (block_of (suc n) l) (block_of k l) c e (all_get blank n sound.contents (omega arith)) f
       (lies_segment l b lies n (omega (arith, sound.eight)) ∙ ap holding q) p
       ∙ ap (λ (o : Option Content). same_content o e) (sym q)
 
-  pub differing_is : (q : Copy) (k : ℕ) → FineCopy b.issue (length b.segments) q → block_of k l ≡ holding (some q.held)
+  pub differing_is : (q : Copy) (k : ℕ) → FineCopy b.issue (length b.segments) q → block_of k l ≡ holding (Some q.held)
       → differing l q.segment k ≡ not (same_content (at b.segments q.segment) q.held)
   unfolding differing
   differing_is q k f p = let h = f.from in rw (ne_eqb q.segment 0 (λ e. omega arith)) (ap not (decides q.segment q.held k f.from f.to f.fine p))
@@ -126,30 +127,30 @@ module _ (l : List ℕ) (b : Book) (lies : Lies l b) (sound : Sound b) (d : ℕ)
   draft_here = sym (or_closed_lem b.drafts d) ∙ isOpen
 
   -- the numbers of its segments
-  first_is : get_or l (5 + 4 * suc d) 0 ≡ segment_of (get_elem? ks 0)
+  first_is : get_or l (5 + 4 * suc d) 0 ≡ segment_of (slice_get ks 0)
   first_is =
       let e : 5 + 4 * suc d ≡ 8 + 4 * d + 1 = omega arith in
       ap (λ (j : ℕ). get_or l j 0) e ∙ lies_draft l b lies d 1 high (omega arith) ∙ ap (λ (x : Draft). get_or (draft_bytes x) 1 0) draft_here
 
-  second_is : get_or l (6 + 4 * suc d) 0 ≡ segment_of (get_elem? ks 1)
+  second_is : get_or l (6 + 4 * suc d) 0 ≡ segment_of (slice_get ks 1)
   second_is =
       let e : 6 + 4 * suc d ≡ 8 + 4 * d + 2 = omega arith in
       ap (λ (j : ℕ). get_or l j 0) e ∙ lies_draft l b lies d 2 high (omega arith) ∙ ap (λ (x : Draft). get_or (draft_bytes x) 2 0) draft_here
 
   -- its blocks
-  block_is : (k j : ℕ) → j < 2 → k ≡ 9 + 2 * d + j → block_of k l ≡ holding (held_of (get_elem? ks j))
+  block_is : (k j : ℕ) → j < 2 → k ≡ 9 + 2 * d + j → block_of k l ≡ holding (held_of (slice_get ks j))
   block_is k j h e =
-      ap (λ (i : ℕ). block_of i l) e ∙ lies_copy l b lies d j high h ∙ ap (λ (x : Draft). holding (held_of (get_elem? (copies_of x) j))) draft_here
+      ap (λ (i : ℕ). block_of i l) e ∙ lies_copy l b lies d j high h ∙ ap (λ (x : Draft). holding (held_of (slice_get (copies_of x) j))) draft_here
 
-  held_is : (k j : ℕ) → j < 2 → k ≡ 9 + 2 * d + j → held_in b (part_of k) ≡ held_of (get_elem? ks j)
+  held_is : (k j : ℕ) → j < 2 → k ≡ 9 + 2 * d + j → held_in b (part_of k) ≡ held_of (slice_get ks j)
   unfolding held_in
   held_is k j h e =
-      ap (λ (i : ℕ). held_in b (part_of i)) e ∙ ap (held_in b) (part_copy d j high h) ∙ ap (λ (x : Draft). held_of (get_elem? (copies_of x) j)) isOpen
+      ap (λ (i : ℕ). held_in b (part_of i)) e ∙ ap (held_in b) (part_copy d j high h) ∙ ap (λ (x : Draft). held_of (slice_get (copies_of x) j)) isOpen
 
-  stands_is : (q : Copy) (k j : ℕ) → j < 2 → k ≡ 9 + 2 * d + j → get_elem? ks j ≡ some q → FineCopy b.issue (length b.segments) q → Stands b q.segment k q.held
+  stands_is : (q : Copy) (k j : ℕ) → j < 2 → k ≡ 9 + 2 * d + j → slice_get ks j ≡ Some q → FineCopy b.issue (length b.segments) q → Stands b q.segment k q.held
   stands_is q k j h e g f = record { one = f.from; there = f.to; held = held_is k j h e ∙ ap held_of g }
 
-  says_is : (q : Copy) (k j : ℕ) → j < 2 → k ≡ 9 + 2 * d + j → get_elem? ks j ≡ some q → FineCopy b.issue (length b.segments) q
+  says_is : (q : Copy) (k j : ℕ) → j < 2 → k ≡ 9 + 2 * d + j → slice_get ks j ≡ Some q → FineCopy b.issue (length b.segments) q
       → differing l q.segment k ≡ not (same_content (at b.segments q.segment) q.held)
   says_is q k j h e g f = differing_is l b lies sound q k f (block_is k j h e ∙ ap (λ (o : Option Copy). holding (held_of o)) g)
 

@@ -1,7 +1,7 @@
 -- What blocks hold is stored as the segments that were found: the same of a commit and of an undo. Assumes nothing.
 use mathlib.Core.Path.{◌≡◌, sym, ap, ◌∙◌, subst}
 use mathlib.Core.List.{List}
-use mathlib.Core.Option.{some}
+use Rattle.std.specs.Prelude.{Some}
 use Prim.Native.Nat.{ℕ, zero, suc, ◌≤◌}
 use native.Mathlib.Omega.{arith}
 use lib.ListN.{length}
@@ -27,7 +27,7 @@ use Rattle.history.specs.declared.Found.TheVariants as found
 
 -- ---- what the moves promise of bytes l before and m after
 abbrev pub Puts : List ℕ → List ℕ → ℕ → ℕ → Type 0
-Puts l m from s = (b : Book) → Lies l b → (c : Content) → held_in b (part_of from) ≡ some c → s ≤ length b.segments → Lies m (with_segments b (put b.segments s c))
+Puts l m from s = (b : Book) → Lies l b → (c : Content) → held_in b (part_of from) ≡ Some c → s ≤ length b.segments → Lies m (with_segments b (put b.segments s c))
 
 abbrev pub Stores : List ℕ → List ℕ → Found → Type 0
 Stores l m f = (b : Book) → Lies l b → (cs : List Copy) → Finds b f cs → Lies m (with_segments b (stored cs b.segments))

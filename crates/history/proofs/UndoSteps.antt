@@ -3,10 +3,11 @@ use mathlib.Core.Path.{◌≡◌, sym, ap, ap₂, subst, ◌∙◌}
 use mathlib.Core.Logic.{◌≢◌}
 use mathlib.Core.Bool.{Bool, true, cond}
 use mathlib.Core.List.{List, [], ◌∷◌}
-use mathlib.Core.Option.{some}
+use Rattle.std.specs.Prelude.{Some}
 use Prim.Native.Nat.{ℕ, suc, ◌+◌, ◌*◌, ◌-◌, ◌≤◌, ◌<◌}
 use native.Mathlib.Omega.{arith}
-use lib.ListN.{length, get_or, get_elem?}
+use lib.ListN.{length, get_or}
+use Rattle.std.specs.Prelude.{slice_get}
 use borrow.Author.Tests.{eq-eqb, ne_eqb}
 use Rattle.laws.proofs.Tests.{by_order, impossible}
 use Rattle.blocks.specs.Block.{block_count}
@@ -69,8 +70,8 @@ module _ (l : List ℕ) (r : ℕ) where
         ap₂ (λ (s t : ℕ). found.Two s (17 + 2 * r) t (18 + 2 * r)) is_x is_y ∙ sym (two_in (λ z. h (is_y ∙ z)))
 
 -- what block j of step r holds
-held_is : (b : Book) (r j : ℕ) (cs : List Copy) (k : Copy) → j < 2 → get_elem? b.history.kept r ≡ some cs → get_elem? cs j ≡ some k
-    → held_in b (part_of (17 + 2 * r + j)) ≡ some k.held
+held_is : (b : Book) (r j : ℕ) (cs : List Copy) (k : Copy) → j < 2 → slice_get b.history.kept r ≡ Some cs → slice_get cs j ≡ Some k
+    → held_in b (part_of (17 + 2 * r + j)) ≡ Some k.held
 unfolding held_in
 held_is b r j cs k h e f = rw (part_before r j h, e, f)
 
@@ -86,17 +87,17 @@ module _ (l : List ℕ) (r : ℕ) (s : LastStep l r) where
   ranged = ranges (step_cases l (sound_parts l s.sound) r (omega (arith, s.count)))
 
   -- it is in the book, and it is the newest
-  step_there : get_elem? (book_of l).history.kept r ≡ some (step_of l r)
+  step_there : slice_get (book_of l).history.kept r ≡ Some (step_of l r)
   step_there = step_of_lem l r (omega (arith, s.count))
 
   pub step_count : length (book_of l).history.kept ≡ r + 1
   step_count = steps_length l ∙ s.count
 
-  pub newest_is : newest (book_of l).history.kept ≡ some (step_of l r)
+  pub newest_is : newest (book_of l).history.kept ≡ Some (step_of l r)
   unfolding newest
   newest_is =
       let e : length (book_of l).history.kept - 1 ≡ r = omega (arith, step_count) in
-      ap (get_elem? (book_of l).history.kept) e ∙ step_there
+      ap (slice_get (book_of l).history.kept) e ∙ step_there
 
   -- its copies: one or two
   step_one : second l r ≡ 0 → step_of l r ≡ copy_at l (first l r) (17 + 2 * r) ∷ []
@@ -108,12 +109,12 @@ module _ (l : List ℕ) (r : ℕ) (s : LastStep l r) where
   step_two h = copies_two l (first l r) (second l r) (17 + 2 * r) ranged.from h
 
   -- what its first block holds, and its second
-  first_held : (k : Copy) → get_elem? (step_of l r) 0 ≡ some k → held_in (book_of l) (part_of (17 + 2 * r)) ≡ some k.held
+  first_held : (k : Copy) → slice_get (step_of l r) 0 ≡ Some k → held_in (book_of l) (part_of (17 + 2 * r)) ≡ Some k.held
   first_held k e =
       let z : 17 + 2 * r ≡ 17 + 2 * r + 0 = omega arith in
       ap (λ (i : ℕ). held_in (book_of l) (part_of i)) z ∙ held_is (book_of l) r 0 (step_of l r) k (omega arith) step_there e
 
-  second_held : (k : Copy) → get_elem? (step_of l r) 1 ≡ some k → held_in (book_of l) (part_of (18 + 2 * r)) ≡ some k.held
+  second_held : (k : Copy) → slice_get (step_of l r) 1 ≡ Some k → held_in (book_of l) (part_of (18 + 2 * r)) ≡ Some k.held
   second_held k e =
       let z : 18 + 2 * r ≡ 17 + 2 * r + 1 = omega arith in
       ap (λ (i : ℕ). held_in (book_of l) (part_of i)) z ∙ held_is (book_of l) r 1 (step_of l r) k (omega arith) step_there e
@@ -124,7 +125,7 @@ module _ (l : List ℕ) (r : ℕ) (s : LastStep l r) where
       record {
         one = ranged.from;
         there = omega (arith, segments_length l, ranged.to);
-        held = first_held (copy_at l (first l r) (17 + 2 * r)) (ap (λ (cs : List Copy). get_elem? cs 0) e);
+        held = first_held (copy_at l (first l r) (17 + 2 * r)) (ap (λ (cs : List Copy). slice_get cs 0) e);
       }
 
   pub step_finds : Finds (book_of l) (step_in l r) (step_of l r)
@@ -140,7 +141,7 @@ module _ (l : List ℕ) (r : ℕ) (s : LastStep l r) where
         stands2 = record {
           one = h;
           there = omega (arith, segments_length l, ranged.other);
-          held = second_held q (ap (λ (cs : List Copy). get_elem? cs 1) (step_two h));
+          held = second_held q (ap (λ (cs : List Copy). slice_get cs 1) (step_two h));
         };
         are = step_two h;
       })

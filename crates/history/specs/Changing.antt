@@ -1,6 +1,6 @@
 -- Serves the code: what a commit and an undo find in a book's bytes, and the books that they go through.
 use Rattle.std.specs.Prelude.{ℕ, ◌+◌, ◌*◌, ◌≤◌, ◌<◌, ◌≡◌, Bool, true, false, cond, not, List, [], ◌∷◌, map, length, get_or, eqb, ltb}
-use Rattle.std.proofs.Math.Option.{some}
+use Rattle.std.specs.Prelude.{Some}
 use Rattle.codes.specs.Block.{Content}
 use Rattle.blocks.specs.Block.{block_of, same_list}
 use Rattle.steps.specs.Book.{Copy, Book}
@@ -65,7 +65,7 @@ held_copy s c = record { segment = s; held = c }
 pub record Stands (b : Book) (s from : ℕ) (c : Content) : Type 0 where
   pub one : 1 ≤ s
   pub there : s ≤ length b.segments
-  pub held : held_in b (part_of from) ≡ some c
+  pub held : held_in b (part_of from) ≡ Some c
 
 pub record FindsOne (b : Book) (s from : ℕ) (cs : List Copy) : Type 0 where
   pub content : Content

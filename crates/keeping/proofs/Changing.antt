@@ -5,7 +5,7 @@ use mathlib.Core.Path.{◌≡◌, refl, ap}
 use mathlib.Core.Logic.{◌≢◌}
 use mathlib.Core.Bool.{Bool, false}
 use mathlib.Core.List.{List, [], ◌∷◌, ◌++◌, map}
-use mathlib.Core.Option.{Option, none, some}
+use Rattle.std.specs.Prelude.{Option, None, Some}
 use lib.ListN.{length, length-map, length-drop, length-take}
 use lib.Dec.{eqb, ltb}
 use borrow.Author.Tests.{ltb-true, ltb-false, eqb-false}
@@ -100,8 +100,8 @@ changes_fine issue n segments ks stale h =
 -- ---- what their segments held before
 pub old_content : (issue : ℕ) (segments : List Content) (k : Copy) (o : Option Content) → at segments k.segment ≡ o
     → All (Fine issue) segments → Fine issue k.held → Fine issue (or_else o k.held)
-old_content issue segments k none e f h = h
-old_content issue segments k (some c) e f h = (all_stands segments k.segment c f e).is
+old_content issue segments k None e f h = h
+old_content issue segments k (Some c) e f h = (all_stands segments k.segment c f e).is
 
 pub old_fine : (issue n : ℕ) (segments : List Content) (k : Copy) → All (Fine issue) segments → FineCopy issue n k → FineCopy issue n (old_of segments k)
 old_fine issue n segments k f h = record { from = h.from; to = h.to; fine = old_content issue segments k (at segments k.segment) refl f h.fine }
@@ -140,7 +140,7 @@ remember_fine issue n (k ∷ ks) h c p =
     }
 
 -- the newest step, and those before it
-pub newest_fine : (issue n : ℕ) (h : History) (cs : List Copy) → FineHistory issue n h → newest h.kept ≡ some cs → FineStep issue n cs
+pub newest_fine : (issue n : ℕ) (h : History) (cs : List Copy) → FineHistory issue n h → newest h.kept ≡ Some cs → FineStep issue n cs
 unfolding newest
 newest_fine issue n h cs p e = all_found (length h.kept - 1) p.steps e
 

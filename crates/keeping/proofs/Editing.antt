@@ -2,7 +2,8 @@
 use Prim.Native.Nat.{ℕ}
 use mathlib.Core.Path.{◌≡◌}
 use mathlib.Core.Bool.{true, not}
-use lib.ListN.{length, get_elem?}
+use lib.ListN.{length}
+use Rattle.std.specs.Prelude.{slice_get}
 use lib.Dec.{ltb, eqb}
 use borrow.Author.Tests.{ltb-true, lt-leb, not-true}
 use Rattle.laws.proofs.Tests.{and_left, and_right}
@@ -35,7 +36,7 @@ pub edit_fine : (issue : ℕ) (e : Edit) (c : Content) → Fine issue c → in_r
 unfolding edit_rule
 edit_fine issue read_purge c f r = told_ok _ f
 edit_fine issue read_count c f r = told_ok _ f
-edit_fine issue (read_place i) c f r = told_find (get_elem? c.places i) out_of_range _ (λ p e. told_ok _ f)
+edit_fine issue (read_place i) c f r = told_find (slice_get c.places i) out_of_range _ (λ p e. told_ok _ f)
 edit_fine issue (add p) c f r =
     told_cond (member p c.places) _ _
     (λ t. told_ok _ f)

@@ -4,7 +4,7 @@ use native.Mathlib.Omega.{arith}
 use mathlib.Core.Path.{◌≡◌, refl, ◌∙◌, subst}
 use mathlib.Core.Bool.{true, false, not}
 use mathlib.Core.List.{List, [], map}
-use mathlib.Core.Option.{some}
+use Rattle.std.specs.Prelude.{Some}
 use lib.ListN.{length, length-map}
 use Rattle.laws.proofs.Tests.{apart}
 use Rattle.laws.specs.Lists.{All, all_nil, all_cons}
@@ -69,7 +69,7 @@ store_sound b cs ds past c e f p h =
 
 -- ---- the calls
 -- an open draft of a sound book
-pub open_fine : {issue n : ℕ} {y : Draft} {x : OpenDraft} → FineDraft issue n y → open_draft y ≡ some x → FineTaken issue n x.copies x.stale
+pub open_fine : {issue n : ℕ} {y : Draft} {x : OpenDraft} → FineDraft issue n y → open_draft y ≡ Some x → FineTaken issue n x.copies x.stale
 open_fine closed_fine e = apart cc
 open_fine {issue} {n} (working_fine f) e = subst (λ (x : OpenDraft). FineTaken issue n x.copies x.stale) (some_same e) f
 
@@ -80,7 +80,7 @@ module _ (b : Book) (h : Sound b) where
   abbrev n : ℕ
   n = length b.segments
 
-  opened : (d : ℕ) {x : OpenDraft} → open_draft (draft_at b.drafts d) ≡ some x → FineTaken i n x.copies x.stale
+  opened : (d : ℕ) {x : OpenDraft} → open_draft (draft_at b.drafts d) ≡ Some x → FineTaken i n x.copies x.stale
   opened d e = open_fine (draft_fine b d h) e
 
   commit_sound : (d : ℕ) (x : OpenDraft) → FineTaken i n x.copies x.stale → Sound (committed b d (changes b.segments x.copies))
@@ -93,7 +93,7 @@ module _ (b : Book) (h : Sound b) where
       (remember_fine i n (map (old_of b.segments) cs) b.history (old_changes i n b.segments cs h.contents c) h.past)
       h
 
-  undo_sound : (cs : List Copy) → newest b.history.kept ≡ some cs → Sound (undone b cs)
+  undo_sound : (cs : List Copy) → newest b.history.kept ≡ Some cs → Sound (undone b cs)
   undo_sound cs e =
       store_sound b cs (map (staled cs) b.drafts) (record { kept = older b.history.kept })
       (newest_fine i n b.history cs h.past e).copies

@@ -3,8 +3,9 @@ use Prim.Native.Nat.{ℕ, zero, suc, ◌≤◌}
 use native.Mathlib.Omega.{arith}
 use mathlib.Core.Path.{◌≡◌, refl}
 use mathlib.Core.List.{List, [], ◌∷◌}
-use mathlib.Core.Option.{some}
-use lib.ListN.{length, get_elem?, length-set}
+use Rattle.std.specs.Prelude.{Some}
+use lib.ListN.{length, length-set}
+use Rattle.std.specs.Prelude.{slice_get}
 use Rattle.laws.proofs.Tests.{apart}
 use Rattle.laws.proofs.Lists.{all_set, all_found}
 use Rattle.laws.specs.Lists.{All, all_cons}
@@ -26,7 +27,7 @@ module _ {A : Type 0} {P : A → Type 0} where
   all_put zero x p a = a
   all_put (suc k) x p a = all_set k x p a
 
-  pub all_stands : (xs : List A) (s : ℕ) (x : A) → All P xs → at xs s ≡ some x → Stands P xs s x
+  pub all_stands : (xs : List A) (s : ℕ) (x : A) → All P xs → at xs s ≡ Some x → Stands P xs s x
   all_stands xs zero x a e = apart cc
   all_stands xs (suc k) x a e = record { is = all_found k a e; from = omega arith; to = get_low xs k e }
 
@@ -35,7 +36,7 @@ pub draft_is : (P : Draft → Type 0) (ds : List Draft) (d : ℕ) → P closed �
 draft_is P ds zero c a = c
 draft_is P ds (suc k) c a = go ds k a
   where
-    go : (ds : List Draft) (k : ℕ) → All P ds → P (or_closed (get_elem? ds k))
+    go : (ds : List Draft) (k : ℕ) → All P ds → P (or_closed (slice_get ds k))
     go [] k a = c
     go (x ∷ ds) zero (all_cons p a) = p
     go (x ∷ ds) (suc k) (all_cons p a) = go ds k a

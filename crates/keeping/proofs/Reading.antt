@@ -2,8 +2,9 @@
 use Prim.Native.Nat.{ℕ, zero, suc}
 use mathlib.Core.Path.{◌≡◌, refl, sym, ap, ◌∙◌}
 use mathlib.Core.List.{List, [], ◌∷◌}
-use mathlib.Core.Option.{some}
-use lib.ListN.{get_elem?, set}
+use Rattle.std.specs.Prelude.{Some}
+use lib.ListN.{set}
+use Rattle.std.specs.Prelude.{slice_get}
 use Rattle.laws.proofs.Tests.{apart}
 use Rattle.laws.proofs.Lookups.{some_same}
 use Rattle.refusal.specs.Numbers.{no_draft, no_such_segment, not_taken, out_of_range}
@@ -21,13 +22,13 @@ draft_own : (ds : List Draft) (d : ℕ) (x : Draft) → x ≡ draft_at ds d → 
 draft_own ds zero x e = refl
 draft_own ds (suc k) x e = go ds k e
   where
-    go : (ds : List Draft) (k : ℕ) → x ≡ or_closed (get_elem? ds k) → set ds k x ≡ ds
+    go : (ds : List Draft) (k : ℕ) → x ≡ or_closed (slice_get ds k) → set ds k x ≡ ds
     go [] k e = refl
     go (y ∷ ds) zero e = ap (λ (z : Draft). z ∷ ds) e
     go (y ∷ ds) (suc k) e = ap (λ (zs : List Draft). y ∷ zs) (go ds k e)
 
 -- an open draft is what its copies and its flag make
-open_is : (y : Draft) (x : OpenDraft) → open_draft y ≡ some x → working x.copies x.stale ≡ y
+open_is : (y : Draft) (x : OpenDraft) → open_draft y ≡ Some x → working x.copies x.stale ≡ y
 open_is closed x e = apart cc
 open_is (working ks stale) x e = ap (λ (z : OpenDraft). working z.copies z.stale) (sym (some_same e))
 

@@ -5,7 +5,7 @@ use native.Mathlib.Numerals.{add-one}
 use mathlib.Core.Path.{◌≡◌, refl, sym, ap, ◌∙◌, subst}
 use mathlib.Core.Bool.{Bool, true, false, not}
 use mathlib.Core.List.{List, [], ◌∷◌, ◌++◌}
-use mathlib.Core.Option.{Option, some}
+use Rattle.std.specs.Prelude.{Option, Some}
 use lib.ListN.{length, length-append}
 use lib.Dec.{ltb, eqb}
 use borrow.Author.Tests.{ltb-true, eqb-false, ne_eqb, not-true}
@@ -42,11 +42,11 @@ recopy_length s c [] = refl
 recopy_length s c (k ∷ ks) = ap suc (recopy_length s c ks)
 
 -- ---- a copy that is found is fine
-pub copy_fine : (issue n s : ℕ) (ks : List Copy) (c : Content) → All (FineCopy issue n) ks → copy_of s ks ≡ some c → Fine issue c
+pub copy_fine : (issue n s : ℕ) (ks : List Copy) (c : Content) → All (FineCopy issue n) ks → copy_of s ks ≡ Some c → Fine issue c
 unfolding copy_of
 copy_fine issue n s [] c a e = apart cc
 copy_fine issue n s (k ∷ ks) c (all_cons h a) e =
-    choose (λ (o : Option Content). o ≡ some c → Fine issue c) (eqb s k.segment) (some k.held) (copy_of s ks)
+    choose (λ (o : Option Content). o ≡ Some c → Fine issue c) (eqb s k.segment) (Some k.held) (copy_of s ks)
     (λ q g. subst (Fine issue) (some_same g) h.fine)
     (λ q g. copy_fine issue n s ks c a g)
     e

@@ -2,8 +2,9 @@
 use Prim.Native.Nat.{ℕ, zero, suc, ◌+◌, ◌-◌, ◌≤◌, ◌<◌}
 use native.Mathlib.Omega.{arith}
 use mathlib.Core.Path.{◌≡◌, subst, sym, ap, ◌∙◌}
-use mathlib.Core.Option.{some}
-use lib.ListN.{length, take, drop, get_or, get_elem?, set, replicate, length-replicate, replicate-append-replicate}
+use Rattle.std.specs.Prelude.{Some}
+use lib.ListN.{length, take, drop, get_or, set, replicate, length-replicate, replicate-append-replicate}
+use Rattle.std.specs.Prelude.{slice_get}
 use lib.Seq.{take-add, take_at, drop_at, length-take-le}
 use mathlib.Core.List.{List, [], ◌∷◌, ◌++◌, map, Memᴰ}
 use Rattle.laws.specs.Lists.{All, all_nil, all_cons}
@@ -44,7 +45,7 @@ all_get z i all_nil h = absurd (omega arith)
 all_get z zero (all_cons p a) h = p
 all_get z (suc i) (all_cons p a) h = all_get z i a (omega arith)
 
-pub all_found : {A : Type 0} {P : A → Type 0} {xs : List A} (i : ℕ) {x : A} → All P xs → get_elem? xs i ≡ some x → P x
+pub all_found : {A : Type 0} {P : A → Type 0} {xs : List A} (i : ℕ) {x : A} → All P xs → slice_get xs i ≡ Some x → P x
 all_found i all_nil e = apart cc
 all_found {P} zero (all_cons p a) e = subst P (some_same e) p
 all_found (suc i) (all_cons p a) e = all_found i a e

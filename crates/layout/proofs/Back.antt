@@ -2,10 +2,11 @@
 use mathlib.Core.Path.{◌≡◌, sym, ap, ◌∙◌, subst}
 use mathlib.Core.Bool.{Bool, true, false, cond}
 use mathlib.Core.List.{List}
-use mathlib.Core.Option.{Option}
+use Rattle.std.specs.Prelude.{Option}
 use Prim.Native.Nat.{ℕ, zero, suc, ◌+◌, ◌*◌, ◌≤◌, ◌<◌}
 use native.Mathlib.Omega.{arith}
-use lib.ListN.{length, take, drop, get_or, get_elem?}
+use lib.ListN.{length, take, drop, get_or}
+use Rattle.std.specs.Prelude.{slice_get}
 use lib.Seq.{take_all}
 use borrow.Author.Tests.{le-leb, lt-leb, le-ltb}
 use Rattle.laws.proofs.Tests.{by, by_order}
@@ -45,8 +46,8 @@ module _ (l : List ℕ) (p : Parts l) where
   unfolding held_in
   taken_held d r h g =
       rw (part_copy d r h g, used_copy l d r h g)
-      (ap (λ (x : Draft). held_of (get_elem? (copies_of x) r)) (draft_of_lem l d h)
-      ∙ ap (λ (ks : List Copy). held_of (get_elem? ks r)) (draft_copies l d p h)
+      (ap (λ (x : Draft). held_of (slice_get (copies_of x) r)) (draft_of_lem l d h)
+      ∙ ap (λ (ks : List Copy). held_of (slice_get ks r)) (draft_copies l d p h)
       ∙ copy_held l (9 + 4 * d) (10 + 4 * d) (9 + 2 * d) r (omega arith) (second_needs (draft_cases l p d h)) g)
 
   before_held : (s r : ℕ) → s < 16 → r < 2 → Held l (17 + 2 * s + r)
@@ -54,10 +55,10 @@ module _ (l : List ℕ) (p : Parts l) where
   before_held s r h g =
       rw (part_before s r g, used_before l s r)
       (by_order s (get_or l 24 0)
-      (λ k. ap (λ (x : Option (List Copy)). held_of (get_elem? (or_none x) r)) (step_of_lem l s k)
+      (λ k. ap (λ (x : Option (List Copy)). held_of (slice_get (or_none x) r)) (step_of_lem l s k)
       ∙ copy_held l (32 + 2 * s) (33 + 2 * s) (17 + 2 * s) r (omega arith) (step_needs (step_cases l p s k)) g)
       (λ k. let z : get_or l (32 + 2 * s + r) 0 ≡ 0 = p.rest (32 + 2 * s + r) (omega arith) (omega arith) in
-      ap (λ (x : Option (List Copy)). held_of (get_elem? (or_none x) r)) (step_past l s k)
+      ap (λ (x : Option (List Copy)). held_of (slice_get (or_none x) r)) (step_past l s k)
       ∙ rw (le-ltb 0 (get_or l (32 + 2 * s + r) 0) (omega arith))))
 
   pub block_held : (k : ℕ) → 1 ≤ k → k ≤ 48 → held_in (book_of l) (part_of k) ≡ held_when (used l k) (content_of (block_of k l))

@@ -2,11 +2,12 @@
 use mathlib.Core.Path.{◌≡◌, refl, ap, ap₂, ◌∙◌, subst}
 use mathlib.Core.Bool.{Bool, true}
 use mathlib.Core.List.{List, ◌∷◌, ◌++◌, map}
-use mathlib.Core.Option.{none, some}
+use Rattle.std.specs.Prelude.{None, Some}
 use Prim.Native.Nat.{ℕ, zero, suc, ◌+◌, ◌*◌, ◌≤◌, ◌<◌}
 use native.Mathlib.Nat.{suc-mul, mul-suc}
 use native.Mathlib.Omega.{arith}
-use lib.ListN.{length, take, drop, get_elem?}
+use lib.ListN.{length, take, drop}
+use Rattle.std.specs.Prelude.{slice_get}
 use lib.Seq.{take-add, drop-drop}
 use Rattle.laws.proofs.Tests.{impossible, and_left, and_right, by_order}
 use Rattle.laws.specs.Lists.{All, all_nil, all_cons, every}
@@ -21,16 +22,16 @@ module _ {A : Type 0} (f : ℕ → A) where
   count_length a (suc n) = ap suc (count_length (suc a) n)
 
   -- the one at i
-  pub count_at : (a n i : ℕ) → i < n → get_elem? (map f (upward a n)) i ≡ some (f (a + i))
+  pub count_at : (a n i : ℕ) → i < n → slice_get (map f (upward a n)) i ≡ Some (f (a + i))
   unfolding upward
   count_at a zero i h = impossible (omega arith)
-  count_at a (suc n) zero h = let e : a ≡ a + 0 = omega arith in ap (λ (j : ℕ). some (f j)) e
+  count_at a (suc n) zero h = let e : a ≡ a + 0 = omega arith in ap (λ (j : ℕ). Some (f j)) e
   count_at a (suc n) (suc i) h =
       let e : suc a + i ≡ a + suc i = omega arith in
-      count_at (suc a) n i (omega arith) ∙ ap (λ (j : ℕ). some (f j)) e
+      count_at (suc a) n i (omega arith) ∙ ap (λ (j : ℕ). Some (f j)) e
 
   -- none behind them
-  pub count_past : (a n i : ℕ) → n ≤ i → get_elem? (map f (upward a n)) i ≡ none
+  pub count_past : (a n i : ℕ) → n ≤ i → slice_get (map f (upward a n)) i ≡ None
   unfolding upward
   count_past a zero i h = refl
   count_past a (suc n) zero h = impossible (omega arith)

@@ -3,7 +3,8 @@ use mathlib.Core.Path.{◌≡◌, refl, sym, ap, ◌∙◌}
 use mathlib.Core.List.{List, [], ◌∷◌, ◌++◌}
 use Prim.Native.Nat.{ℕ, zero, suc, ◌+◌, ◌*◌, ◌-◌, ◌≤◌, ◌<◌}
 use native.Mathlib.Omega.{arith}
-use lib.ListN.{length, get_or, get_elem?, replicate, length-replicate, get_or-replicate, length-append, get_or-append, get_or-eq_default}
+use lib.ListN.{length, get_or, replicate, length-replicate, get_or-replicate, length-append, get_or-append, get_or-eq_default}
+use Rattle.std.specs.Prelude.{slice_get}
 use lib.Seq.{get_or-append-add}
 use Rattle.laws.proofs.Tests.{by_order}
 use Rattle.checks.specs.Seal.{block_length}
@@ -16,12 +17,12 @@ use Rattle.layout.specs.Layout.{draft_bytes, step_bytes, front, back, index_byte
 
 -- ---- elements that may not be there
 -- a draft, a step
-pub or_closed_lem : (ds : List Draft) (d : ℕ) → or_closed (get_elem? ds d) ≡ get_or ds d closed
+pub or_closed_lem : (ds : List Draft) (d : ℕ) → or_closed (slice_get ds d) ≡ get_or ds d closed
 or_closed_lem [] d = refl
 or_closed_lem (x ∷ ds) zero = refl
 or_closed_lem (x ∷ ds) (suc d) = or_closed_lem ds d
 
-pub or_none_lem : (ss : List (List Copy)) (s : ℕ) → or_none (get_elem? ss s) ≡ get_or ss s []
+pub or_none_lem : (ss : List (List Copy)) (s : ℕ) → or_none (slice_get ss s) ≡ get_or ss s []
 or_none_lem [] s = refl
 or_none_lem (x ∷ ss) zero = refl
 or_none_lem (x ∷ ss) (suc s) = or_none_lem ss s

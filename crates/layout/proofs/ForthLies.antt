@@ -3,7 +3,8 @@ use mathlib.Core.Path.{◌≡◌, sym, ap, ◌∙◌}
 use mathlib.Core.List.{List, []}
 use Prim.Native.Nat.{ℕ, suc, ◌+◌, ◌*◌, ◌<◌}
 use native.Mathlib.Omega.{arith}
-use lib.ListN.{length, get_or, get_elem?}
+use lib.ListN.{length, get_or}
+use Rattle.std.specs.Prelude.{slice_get}
 use Rattle.blocks.specs.Block.{number_at, block_of}
 use Rattle.blocks.specs.Content.{holding}
 use Rattle.blocks.proofs.Blocks.{byte_of}
@@ -49,24 +50,24 @@ module _ (l : List ℕ) (b : Book) (lies : Lies l b) where
   lies_block k h = lies.blocks k h
 
   -- of segment n, all counted from 0
-  pub lies_segment : (n : ℕ) → n < 8 → block_of (suc n) l ≡ holding (get_elem? b.segments n)
+  pub lies_segment : (n : ℕ) → n < 8 → block_of (suc n) l ≡ holding (slice_get b.segments n)
   unfolding held_in
   lies_segment n h = lies_block n (omega arith) ∙ ap (λ (p : Part). holding (held_in b p)) (part_segment n h)
 
   -- of copy j of draft d
-  pub lies_copy : (d j : ℕ) → d < 4 → j < 2 → block_of (9 + 2 * d + j) l ≡ holding (held_of (get_elem? (copies_of (get_or b.drafts d closed)) j))
+  pub lies_copy : (d j : ℕ) → d < 4 → j < 2 → block_of (9 + 2 * d + j) l ≡ holding (held_of (slice_get (copies_of (get_or b.drafts d closed)) j))
   unfolding held_in
   lies_copy d j h g =
       let e : 9 + 2 * d + j ≡ suc (8 + 2 * d + j) = omega arith in
       ap (λ (k : ℕ). block_of k l) e ∙ lies_block (8 + 2 * d + j) (omega arith) ∙ ap (λ (k : ℕ). holding (held_in b (part_of k))) (sym e)
       ∙ ap (λ (p : Part). holding (held_in b p)) (part_copy d j h g)
-      ∙ ap (λ (x : Draft). holding (held_of (get_elem? (copies_of x) j))) (or_closed_lem b.drafts d)
+      ∙ ap (λ (x : Draft). holding (held_of (slice_get (copies_of x) j))) (or_closed_lem b.drafts d)
 
   -- of segment j of step s
-  pub lies_before : (s j : ℕ) → s < 16 → j < 2 → block_of (17 + 2 * s + j) l ≡ holding (held_of (get_elem? (get_or b.history.kept s []) j))
+  pub lies_before : (s j : ℕ) → s < 16 → j < 2 → block_of (17 + 2 * s + j) l ≡ holding (held_of (slice_get (get_or b.history.kept s []) j))
   unfolding held_in
   lies_before s j h g =
       let e : 17 + 2 * s + j ≡ suc (16 + 2 * s + j) = omega arith in
       ap (λ (k : ℕ). block_of k l) e ∙ lies_block (16 + 2 * s + j) (omega arith) ∙ ap (λ (k : ℕ). holding (held_in b (part_of k))) (sym e)
       ∙ ap (λ (p : Part). holding (held_in b p)) (part_before s j g)
-      ∙ ap (λ (x : List Copy). holding (held_of (get_elem? x j))) (or_none_lem b.history.kept s)
+      ∙ ap (λ (x : List Copy). holding (held_of (slice_get x j))) (or_none_lem b.history.kept s)

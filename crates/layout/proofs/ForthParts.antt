@@ -2,10 +2,11 @@
 use mathlib.Core.Path.{◌≡◌, sym, ap, ◌∙◌, subst}
 use mathlib.Core.Bool.{Bool, true, false, cond}
 use mathlib.Core.List.{List, [], ◌∷◌}
-use mathlib.Core.Option.{Option, none, some}
+use Rattle.std.specs.Prelude.{Option, None, Some}
 use Prim.Native.Nat.{ℕ, zero, suc, ◌/◌, ◌%◌, ◌<◌}
 use native.Mathlib.Omega.{arith}
-use lib.ListN.{length, get_or, get_elem?, get_or-eq_default}
+use lib.ListN.{length, get_or, get_or-eq_default}
+use Rattle.std.specs.Prelude.{slice_get}
 use lib.Dec.{ltb}
 use borrow.Author.Tests.{lt-ltb, le-ltb}
 use Rattle.laws.proofs.Tests.{by_order}
@@ -33,8 +34,8 @@ sealed_twice m = sealed_again m (check_of m % 256) (check_of m / 256 % 256)
 
 -- ---- whether a block is used, and what for: a content that is sound under the issue
 pub data Told (issue : ℕ) : Bool → Option Content → Type 0 where
-  told_none : Told issue false none
-  told_some : {c : Content} → Fine issue c → Told issue true (some c)
+  told_none : Told issue false None
+  told_some : {c : Content} → Fine issue c → Told issue true (Some c)
 
 -- its block has 512 bytes, and is good
 pub told_wide : {issue : ℕ} {u : Bool} {o : Option Content} → Told issue u o → length (holding o) ≡ block_length
@@ -47,9 +48,9 @@ told_good {issue} (told_some {c} f) = (content_forth issue c f).1
 
 -- the copy j of fine copies
 pub told_copy : (issue n : ℕ) (ks : List Copy) (j : ℕ) → All (FineCopy issue n) ks
-    → Told issue (ltb 0 (segment_of (get_elem? ks j))) (held_of (get_elem? ks j))
+    → Told issue (ltb 0 (segment_of (slice_get ks j))) (held_of (slice_get ks j))
 told_copy issue n [] j a = told_none
-told_copy issue n (k ∷ ks) zero (all_cons f a) = subst (λ (u : Bool). Told issue u (some k.held)) (sym (lt-ltb 0 k.segment f.from)) (told_some f.fine)
+told_copy issue n (k ∷ ks) zero (all_cons f a) = subst (λ (u : Bool). Told issue u (Some k.held)) (sym (lt-ltb 0 k.segment f.from)) (told_some f.fine)
 told_copy issue n (k ∷ ks) (suc j) (all_cons f a) = told_copy issue n ks j a
 
 -- the copies of a fine draft are fine
@@ -60,8 +61,8 @@ draft_copies (working_fine t) = t.copies
 -- whether a part is used
 unfoldable pub named : Book → Part → Bool
 named b (segment n) = ltb n (length b.segments)
-named b (copy d j) = ltb 0 (segment_of (get_elem? (copies_of (get_or b.drafts d closed)) j))
-named b (before s j) = ltb 0 (segment_of (get_elem? (get_or b.history.kept s []) j))
+named b (copy d j) = ltb 0 (segment_of (slice_get (copies_of (get_or b.drafts d closed)) j))
+named b (before s j) = ltb 0 (segment_of (slice_get (get_or b.history.kept s []) j))
 
 -- any content, for lists of them
 abbrev pub blank : Content
@@ -69,7 +70,7 @@ blank = record { purge = 0; places = [] }
 
 module _ (b : Book) (sound : Sound b) where
   -- a segment, a copy, what a segment held before
-  told_segment : (n : ℕ) → Told b.issue (ltb n (length b.segments)) (get_elem? b.segments n)
+  told_segment : (n : ℕ) → Told b.issue (ltb n (length b.segments)) (slice_get b.segments n)
   told_segment n =
       by_order n (length b.segments)
       (λ h. rw (lt-ltb n (length b.segments) h, get_some blank b.segments n h) (told_some (all_get blank n sound.contents h)))

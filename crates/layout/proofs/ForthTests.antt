@@ -4,7 +4,8 @@ use mathlib.Core.Bool.{Bool, true, false, or-true}
 use mathlib.Core.List.{List, [], ◌∷◌}
 use Prim.Native.Nat.{ℕ, zero, suc, ◌+◌, ◌≤◌, ◌<◌}
 use native.Mathlib.Omega.{arith}
-use lib.ListN.{get_or, get_elem?}
+use lib.ListN.{get_or}
+use Rattle.std.specs.Prelude.{slice_get}
 use lib.Dec.{leb, eqb}
 use borrow.Author.Tests.{lt-ltb, le-leb}
 use Rattle.laws.proofs.Lists.{all_head, all_tail}
@@ -65,7 +66,7 @@ step_passes issue n (k ∷ m ∷ []) t =
 step_passes issue n (k ∷ m ∷ o ∷ ks) t = absurd (omega (arith, t.two))
 
 -- the segments that the bytes of a draft and of a step name
-pub draft_number : (x : Draft) (j : ℕ) → j < 2 → get_or (draft_bytes x) (1 + j) 0 ≡ segment_of (get_elem? (copies_of x) j)
+pub draft_number : (x : Draft) (j : ℕ) → j < 2 → get_or (draft_bytes x) (1 + j) 0 ≡ segment_of (slice_get (copies_of x) j)
 draft_number closed zero h = refl
 draft_number closed (suc zero) h = refl
 draft_number closed (suc (suc j)) h = absurd (omega arith)
@@ -73,7 +74,7 @@ draft_number (working ks stale) zero h = refl
 draft_number (working ks stale) (suc zero) h = refl
 draft_number (working ks stale) (suc (suc j)) h = absurd (omega arith)
 
-pub step_number : (ks : List Copy) (j : ℕ) → j < 2 → get_or (step_bytes ks) j 0 ≡ segment_of (get_elem? ks j)
+pub step_number : (ks : List Copy) (j : ℕ) → j < 2 → get_or (step_bytes ks) j 0 ≡ segment_of (slice_get ks j)
 step_number ks zero h = refl
 step_number ks (suc zero) h = refl
 step_number ks (suc (suc j)) h = absurd (omega arith)

@@ -3,7 +3,7 @@ use Prim.Native.Nat.{ℕ}
 use mathlib.Core.Path.{◌≡◌, sym, ap, ◌∙◌, subst}
 use mathlib.Core.Bool.{Bool, true, false, not}
 use mathlib.Core.List.{List}
-use mathlib.Core.Option.{none, some}
+use Rattle.std.specs.Prelude.{None, Some}
 use borrow.Author.Tests.{ltb-true, not-false}
 use Rattle.laws.proofs.Tests.{apart}
 use Rattle.months.specs.Months.{start_of, issue_months}
@@ -27,10 +27,10 @@ module _ (l : List ℕ) (issue : ℕ) (e : issue ≡ number_at l 0) (r : Windowe
   pub window_there : is_issue (number_at l 0) ≡ true → r ≡ windowed.Nothing → (answer whole : Bool) → answer ≡ whole
   unfolding is_issue
   window_there h q answer whole =
-      let known : window_of issue ≡ none = sym g ∙ ap paper_windowed q in
+      let known : window_of issue ≡ None = sym g ∙ ap paper_windowed q in
       let low : is_issue issue ≡ true = subst (λ (x : ℕ). is_issue x ≡ true) (sym e) h in
       let w = window_some issue (ltb-true issue (start_of issue_months) low) in
-      let found : window_of issue ≡ some w.0 = w.1 in
+      let found : window_of issue ≡ Some w.0 = w.1 in
       let z : ◌≡◌ {A = ℕ} 0 1 = cc in
       apart z
 

@@ -3,7 +3,7 @@ use Prim.Native.Nat.{ℕ}
 use mathlib.Core.Path.{◌≡◌, refl, sym, ap, ap₂, ◌∙◌}
 use mathlib.Core.Bool.{true, false}
 use mathlib.Core.List.{List, [], ◌∷◌}
-use mathlib.Core.Option.{some}
+use Rattle.std.specs.Prelude.{Some}
 use lib.Dec.{eqb}
 use borrow.Author.Tests.{eqb-true}
 use Rattle.laws.proofs.Tests.{by, apart}
@@ -21,13 +21,13 @@ recopy_absent s c (k ∷ ks) e =
     (λ t. let f : has s ks ≡ false = rw t at e in rw t (ap (λ (r : List Copy). k ∷ r) (recopy_absent s c ks f)))
 
 -- the same content again
-pub recopy_same : (s : ℕ) (c : Content) (ks : List Copy) → copy_of s ks ≡ some c → Distinct ks → recopy s c ks ≡ ks
+pub recopy_same : (s : ℕ) (c : Content) (ks : List Copy) → copy_of s ks ≡ Some c → Distinct ks → recopy s c ks ≡ ks
 unfolding copy_of recopy
 recopy_same s c [] e x = refl
 recopy_same s c (k ∷ ks) e (first_once absent x) =
     by (eqb s k.segment)
-    (λ t. let f : some k.held ≡ some c = rw t at e in let g : k.held ≡ c = cc in
+    (λ t. let f : Some k.held ≡ Some c = rw t at e in let g : k.held ≡ c = cc in
     let m : s ≡ k.segment = eqb-true s k.segment t in
     rw t (ap₂ (λ (h : Content) (r : List Copy). record { segment = k.segment; held = h } ∷ r) (sym g)
     (recopy_absent s c ks (ap (λ (n : ℕ). has n ks) m ∙ absent))))
-    (λ t. let f : copy_of s ks ≡ some c = rw t at e in rw t (ap (λ (r : List Copy). k ∷ r) (recopy_same s c ks f x)))
+    (λ t. let f : copy_of s ks ≡ Some c = rw t at e in rw t (ap (λ (r : List Copy). k ∷ r) (recopy_same s c ks f x)))

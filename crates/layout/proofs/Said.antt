@@ -1,10 +1,11 @@
 -- What the book has that bytes say: its segments, drafts and steps, and their copies. Assumes nothing.
 use mathlib.Core.Path.{◌≡◌, ap, ◌∙◌}
 use mathlib.Core.List.{List, [], ◌∷◌}
-use mathlib.Core.Option.{none, some}
+use Rattle.std.specs.Prelude.{None, Some}
 use Prim.Native.Nat.{ℕ, suc, ◌+◌, ◌*◌, ◌≤◌, ◌<◌}
 use native.Mathlib.Omega.{arith}
-use lib.ListN.{length, get_or, get_elem?}
+use lib.ListN.{length, get_or}
+use Rattle.std.specs.Prelude.{slice_get}
 use lib.Dec.{eqb}
 use borrow.Author.Tests.{eq-eqb, ne_eqb}
 use Rattle.blocks.specs.Block.{block_of}
@@ -28,13 +29,13 @@ module _ (l : List ℕ) where
   steps_length = count_length (step_of l) 0 (get_or l 24 0)
 
   -- segment s, counted from 0, and none behind the last
-  pub segment_of_lem : (s : ℕ) → s < get_or l 4 0 → at (book_of l).segments (suc s) ≡ some (content_of (block_of (suc s) l))
+  pub segment_of_lem : (s : ℕ) → s < get_or l 4 0 → at (book_of l).segments (suc s) ≡ Some (content_of (block_of (suc s) l))
   unfolding book_of
   segment_of_lem s h =
       let e : 1 + s ≡ suc s = omega arith in
-      count_at (λ (k : ℕ). content_of (block_of k l)) 1 (get_or l 4 0) s h ∙ ap (λ (k : ℕ). some (content_of (block_of k l))) e
+      count_at (λ (k : ℕ). content_of (block_of k l)) 1 (get_or l 4 0) s h ∙ ap (λ (k : ℕ). Some (content_of (block_of k l))) e
 
-  pub segment_past : (s : ℕ) → get_or l 4 0 ≤ s → at (book_of l).segments (suc s) ≡ none
+  pub segment_past : (s : ℕ) → get_or l 4 0 ≤ s → at (book_of l).segments (suc s) ≡ None
   unfolding book_of
   segment_past s h = count_past (λ (k : ℕ). content_of (block_of k l)) 1 (get_or l 4 0) s h
 
@@ -44,11 +45,11 @@ module _ (l : List ℕ) where
   draft_of_lem d h = let e : 0 + d ≡ d = omega arith in ap or_closed (count_at (draft_of l) 0 4 d h) ∙ ap (draft_of l) e
 
   -- step s, counted from 0, and none behind the last
-  pub step_of_lem : (s : ℕ) → s < get_or l 24 0 → get_elem? (book_of l).history.kept s ≡ some (step_of l s)
+  pub step_of_lem : (s : ℕ) → s < get_or l 24 0 → slice_get (book_of l).history.kept s ≡ Some (step_of l s)
   unfolding book_of
-  step_of_lem s h = let e : 0 + s ≡ s = omega arith in count_at (step_of l) 0 (get_or l 24 0) s h ∙ ap (λ (k : ℕ). some (step_of l k)) e
+  step_of_lem s h = let e : 0 + s ≡ s = omega arith in count_at (step_of l) 0 (get_or l 24 0) s h ∙ ap (λ (k : ℕ). Some (step_of l k)) e
 
-  pub step_past : (s : ℕ) → get_or l 24 0 ≤ s → get_elem? (book_of l).history.kept s ≡ none
+  pub step_past : (s : ℕ) → get_or l 24 0 ≤ s → slice_get (book_of l).history.kept s ≡ None
   unfolding book_of
   step_past s h = count_past (step_of l) 0 (get_or l 24 0) s h
 

@@ -2,10 +2,11 @@
 use mathlib.Core.Path.{◌≡◌, refl, sym, ap, ap₂, ◌∙◌}
 use mathlib.Core.Bool.{Bool, cond}
 use mathlib.Core.List.{List, [], ◌∷◌}
-use mathlib.Core.Option.{Option, none, some}
+use Rattle.std.specs.Prelude.{Option, None, Some}
 use Prim.Native.Nat.{ℕ, zero, suc, ◌+◌, ◌*◌, ◌≤◌, ◌<◌}
 use native.Mathlib.Omega.{arith}
-use lib.ListN.{get_or, get_elem?}
+use lib.ListN.{get_or}
+use Rattle.std.specs.Prelude.{slice_get}
 use lib.Dec.{eqb, ltb}
 use borrow.Author.Tests.{lt-ltb, le-ltb}
 use Rattle.laws.proofs.Tests.{by_order, impossible}
@@ -18,13 +19,13 @@ use Rattle.layout.proofs.Parts.{Parts, draft_cases, step_cases}
 use Rattle.layout.proofs.Said.{copies_none, copies_one, copies_two, draft_shut, draft_open}
 
 -- ---- the segments that copies name
-first_named : (l : List ℕ) (first second k : ℕ) → segment_of (get_elem? (copies_at l first second k) 0) ≡ first
+first_named : (l : List ℕ) (first second k : ℕ) → segment_of (slice_get (copies_at l first second k) 0) ≡ first
 first_named l first second k =
     by_order first 1 (λ h. let z : first ≡ 0 = omega arith in rw (copies_none l first second k z) (sym z))
     (λ h. by_order second 1 (λ g. let z : second ≡ 0 = omega arith in rw (copies_one l first second k h z)) (λ g. rw (copies_two l first second k h g)))
 
 -- a second one needs a first
-second_named : (l : List ℕ) (first second k : ℕ) → (first ≡ 0 → second ≡ 0) → segment_of (get_elem? (copies_at l first second k) 1) ≡ second
+second_named : (l : List ℕ) (first second k : ℕ) → (first ≡ 0 → second ≡ 0) → segment_of (slice_get (copies_at l first second k) 1) ≡ second
 second_named l first second k needs =
     by_order first 1 (λ h. let z : first ≡ 0 = omega arith in rw (copies_none l first second k z) (sym (needs z)))
     (λ h. by_order second 1 (λ g. let z : second ≡ 0 = omega arith in rw (copies_one l first second k h z) (sym z)) (λ g. rw (copies_two l first second k h g)))
@@ -32,16 +33,16 @@ second_named l first second k needs =
 -- ---- what the blocks of copies hold
 -- something, or nothing
 abbrev pub held_when : Bool → Content → Option Content
-held_when t c = cond t (some c) none
+held_when t c = cond t (Some c) None
 
-first_held : (l : List ℕ) (first second k : ℕ) → held_of (get_elem? (copies_at l first second k) 0) ≡ held_when (ltb 0 first) (content_of (block_of k l))
+first_held : (l : List ℕ) (first second k : ℕ) → held_of (slice_get (copies_at l first second k) 0) ≡ held_when (ltb 0 first) (content_of (block_of k l))
 first_held l first second k =
     by_order first 1 (λ h. let z : first ≡ 0 = omega arith in rw (copies_none l first second k z, le-ltb 0 first (omega arith)))
     (λ h. by_order second 1 (λ g. let z : second ≡ 0 = omega arith in rw (copies_one l first second k h z, lt-ltb 0 first h))
     (λ g. rw (copies_two l first second k h g, lt-ltb 0 first h)))
 
 second_held : (l : List ℕ) (first second k : ℕ) → (first ≡ 0 → second ≡ 0)
-    → held_of (get_elem? (copies_at l first second k) 1) ≡ held_when (ltb 0 second) (content_of (block_of (suc k) l))
+    → held_of (slice_get (copies_at l first second k) 1) ≡ held_when (ltb 0 second) (content_of (block_of (suc k) l))
 second_held l first second k needs =
     by_order first 1 (λ h. let z : first ≡ 0 = omega arith in let y = needs z in rw (copies_none l first second k z, le-ltb 0 second (omega arith)))
     (λ h. by_order second 1 (λ g. let z : second ≡ 0 = omega arith in rw (copies_one l first second k h z, le-ltb 0 second (omega arith)))
@@ -49,7 +50,7 @@ second_held l first second k needs =
 
 -- copy r of those that bytes o and o + 1 name, in blocks k and k + 1
 pub copy_held : (l : List ℕ) (o o' k r : ℕ) → o' ≡ o + 1 → (get_or l o 0 ≡ 0 → get_or l o' 0 ≡ 0) → r < 2
-    → held_of (get_elem? (copies_at l (get_or l o 0) (get_or l o' 0) k) r) ≡ held_when (ltb 0 (get_or l (o + r) 0)) (content_of (block_of (k + r) l))
+    → held_of (slice_get (copies_at l (get_or l o 0) (get_or l o' 0) k) r) ≡ held_when (ltb 0 (get_or l (o + r) 0)) (content_of (block_of (k + r) l))
 copy_held l o o' k zero e needs h =
     let p : o ≡ o + 0 = omega arith in
     let q : k ≡ k + 0 = omega arith in

@@ -1,7 +1,7 @@
 -- Document 01, "The book": the 49 blocks of a book, and the book that bytes say.
 use Rattle.std.specs.Prelude.{ℕ, zero, suc, ◌+◌, ◌-◌, ◌*◌, ◌/◌, ◌%◌, Bool, true, false, cond, List, [], ◌∷◌, ◌++◌, map, length, get_or, replicate, ltb, eqb}
-use Rattle.std.proofs.Math.Option.{Option, none, some}
-use Rattle.std.proofs.Math.ListN.{get_elem?}
+use Rattle.std.specs.Prelude.{Option, None, Some}
+use Rattle.std.specs.Prelude.{slice_get}
 use Rattle.codes.specs.Places.{upward}
 use Rattle.codes.specs.Block.{Content}
 use Rattle.checks.specs.Seal.{sealed}
@@ -12,8 +12,8 @@ use Rattle.steps.specs.Book.{Copy, Draft, closed, working, Book, or_closed}
 -- ---- block 0
 -- the segment of a copy, 0 if there is none
 abbrev pub segment_of : Option Copy → ℕ
-segment_of none = 0
-segment_of (some k) = k.segment
+segment_of None = 0
+segment_of (Some k) = k.segment
 
 abbrev pub bit : Bool → ℕ
 bit true = 1
@@ -22,11 +22,11 @@ bit false = 0
 -- "four bytes a draft (open 0/1, first segment taken, second, stale 0/1)"
 abbrev pub draft_bytes : Draft → List ℕ
 draft_bytes closed = 0 ∷ 0 ∷ 0 ∷ 0 ∷ []
-draft_bytes (working ks stale) = 1 ∷ segment_of (get_elem? ks 0) ∷ segment_of (get_elem? ks 1) ∷ bit stale ∷ []
+draft_bytes (working ks stale) = 1 ∷ segment_of (slice_get ks 0) ∷ segment_of (slice_get ks 1) ∷ bit stale ∷ []
 
 -- "two bytes a step, oldest first: its segments, ascending, second 0 if none"
 abbrev pub step_bytes : List Copy → List ℕ
-step_bytes ks = segment_of (get_elem? ks 0) ∷ segment_of (get_elem? ks 1) ∷ []
+step_bytes ks = segment_of (slice_get ks 0) ∷ segment_of (slice_get ks 1) ∷ []
 
 -- "bytes 0..3 issue minute; 4 segment count; 8..23 four bytes a draft; 24 undo steps 0..16; 32.. two bytes a step"
 abbrev pub front : Book → List ℕ
@@ -83,17 +83,17 @@ copies_of closed = []
 copies_of (working ks stale) = ks
 
 abbrev pub or_none : Option (List Copy) → List Copy
-or_none none = []
-or_none (some ks) = ks
+or_none None = []
+or_none (Some ks) = ks
 
 abbrev pub held_of : Option Copy → Option Content
-held_of none = none
-held_of (some k) = some k.held
+held_of None = None
+held_of (Some k) = Some k.held
 
 unfoldable pub held_in : Book → Part → Option Content
-held_in b (segment n) = get_elem? b.segments n
-held_in b (copy d n) = held_of (get_elem? (copies_of (or_closed (get_elem? b.drafts d))) n)
-held_in b (before s n) = held_of (get_elem? (or_none (get_elem? b.history.kept s)) n)
+held_in b (segment n) = slice_get b.segments n
+held_in b (copy d n) = held_of (slice_get (copies_of (or_closed (slice_get b.drafts d))) n)
+held_in b (before s n) = held_of (slice_get (or_none (slice_get b.history.kept s)) n)
 
 -- what block k holds, with its check
 unfoldable pub block_bytes : Book → ℕ → List ℕ

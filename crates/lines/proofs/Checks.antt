@@ -6,7 +6,7 @@ use native.Mathlib.Omega.{arith}
 use mathlib.Core.Path.{◌≡◌, refl, ap, ◌∙◌}
 use mathlib.Core.List.{List, [], ◌∷◌}
 use mathlib.Core.Bool.{Bool, true, false, cond, ◌&&◌, ◌||◌}
-use mathlib.Core.Option.{Option, none, some}
+use Rattle.std.specs.Prelude.{Option, None, Some}
 use lib.ListN.{length, get_or, drop, drop_of_length-le}
 use lib.Seq.{drop-cons, drop-drop}
 use lib.Dec.{ltb, eqb}
@@ -57,28 +57,28 @@ last_ends_lem (b ∷ s) = last_is b s
 
 -- ---- no place below n
 abbrev From : ℕ → Option ℕ → Type 0
-From n none = Unit {0}
-From n (some p) = n ≤ p
+From n None = Unit {0}
+From n (Some p) = n ≤ p
 
-least_left : (n : ℕ) (o : Option ℕ) → From n o → least (some n) o ≡ some n
+least_left : (n : ℕ) (o : Option ℕ) → From n o → least (Some n) o ≡ Some n
 unfolding least
-least_left n none h = refl
-least_left n (some p) h = ap some (min-eq_left h)
+least_left n None h = refl
+least_left n (Some p) h = ap Some (min-eq_left h)
 
-least_right : (n : ℕ) (o : Option ℕ) → From n o → least o (some n) ≡ some n
+least_right : (n : ℕ) (o : Option ℕ) → From n o → least o (Some n) ≡ Some n
 unfolding least
-least_right n none h = refl
-least_right n (some p) h = ap some (min-eq_right h)
+least_right n None h = refl
+least_right n (Some p) h = ap Some (min-eq_right h)
 
 least_from : (n : ℕ) (a b : Option ℕ) → From n a → From n b → From n (least a b)
 unfolding least
-least_from n none b h k = k
-least_from n (some p) none h k = h
-least_from n (some p) (some q) h k = le-min h k
+least_from n None b h k = k
+least_from n (Some p) None h k = h
+least_from n (Some p) (Some q) h k = le-min h k
 
 from_less : (m n : ℕ) (o : Option ℕ) → m ≤ n → From n o → From m o
-from_less m n none h k = tt
-from_less m n (some p) h k = le_trans h k
+from_less m n None h k = tt
+from_less m n (Some p) h k = le_trans h k
 
 bad_from : (at : ℕ) (t : List ℕ) → From at (bad_byte at t)
 unfolding bad_byte
@@ -98,7 +98,7 @@ unfolding unended
 unended_from s = by (last_ends s) (λ p. rw p tt) (λ p. rw p (le_refl (length s)))
 
 -- ---- at a byte
-bad_at : (s : List ℕ) (i : ℕ) → i < length s → bad_byte i (drop i s) ≡ cond (between 32 126 (get_or s i 0) || end_some (drop i s)) (bad_byte (i + 1) (drop (i + 1) s)) (some i)
+bad_at : (s : List ℕ) (i : ℕ) → i < length s → bad_byte i (drop i s) ≡ cond (between 32 126 (get_or s i 0) || end_some (drop i s)) (bad_byte (i + 1) (drop (i + 1) s)) (Some i)
 unfolding bad_byte
 bad_at s i h = rw (add-one, drop-cons s i 0 h, allowed_is (get_or s i 0) (drop (suc i) s))
 
@@ -123,11 +123,11 @@ module _ (s : List ℕ) (start : ℕ) (h : start < length s) where
   unfolding long_line end_of
   long_on n e k = ap long_line (lines_step s start h) ∙ rw (le-ltb 132 (length (body_of (first_piece 10 (drop start s)))) (omega arith), e)
 
-  long_here : start + 132 < end_of s start → long_line (lines_from start (drop start s)) ≡ some (start + 132)
+  long_here : start + 132 < end_of s start → long_line (lines_from start (drop start s)) ≡ Some (start + 132)
   unfolding long_line end_of
   long_here k = ap long_line (lines_step s start h) ∙ rw (lt-ltb 132 (length (body_of (first_piece 10 (drop start s)))) (omega arith))
 
-long_past : (s : List ℕ) (i : ℕ) → length s ≤ i → long_line (lines_from i (drop i s)) ≡ none
+long_past : (s : List ℕ) (i : ℕ) → length s ≤ i → long_line (lines_from i (drop i s)) ≡ None
 unfolding long_line
 long_past s i h = rw (lines_last s i h)
 
@@ -144,11 +144,11 @@ later_from s i start h k e =
     (from_less i (length s) (unended s) h (unended_from s))
 
 -- ---- the answer, by the least place
-fine_is : (s : List ℕ) → text_fault s ≡ none → paper_verdict Accepted ≡ check_text s
+fine_is : (s : List ℕ) → text_fault s ≡ None → paper_verdict Accepted ≡ check_text s
 unfolding check_text
 fine_is s e = rw e
 
-fault_is : (s : List ℕ) (i : ℕ) → text_fault s ≡ some i → (r : Verdict) → r ≡ Refused (refusal_for wrong_text i) → paper_verdict r ≡ check_text s
+fault_is : (s : List ℕ) (i : ℕ) → text_fault s ≡ Some i → (r : Verdict) → r ≡ Refused (refusal_for wrong_text i) → paper_verdict r ≡ check_text s
 unfolding check_text
 fault_is s i e r q = rw (e, q)
 
@@ -178,7 +178,7 @@ checks_on s start i h y v =
 
 -- the text's end: no byte was bad, and the last line ends exactly if none is begun
 module _ (s : List ℕ) (start i : ℕ) (v : Checks s start i) (h : length s ≤ i) where
-  bad_last : bad_byte 0 s ≡ none
+  bad_last : bad_byte 0 s ≡ None
   unfolding bad_byte
   bad_last = v.bad ∙ rw (drop_of_length-le s h)
 
@@ -203,7 +203,7 @@ module _ (s : List ℕ) (start : ℕ) (v : Checks s start start) (e : ℕ) (is :
   unfolding text_fault
   checks_long q =
       let high : e ≤ length s = there.high in
-      let here : long_line (lines_of s) ≡ some (start + 132) = there.long ∙ long_here s start (omega arith) (omega (arith, far)) in
+      let here : long_line (lines_of s) ≡ Some (start + 132) = there.long ∙ long_here s start (omega arith) (omega (arith, far)) in
       let end_later : From (start + 132) (unended s) = from_less (start + 132) (length s) (unended s) (omega arith) (unended_from s) in
       let bad-later : From (start + 132) (bad_byte 0 s) = from_less (start + 132) e (bad_byte 0 s) (omega arith) (rw there.bad (bad_from e (drop e s))) in
       fault_is s (start + 132)
@@ -213,19 +213,19 @@ module _ (s : List ℕ) (start : ℕ) (v : Checks s start start) (e : ℕ) (is :
 
   module _ (short : e - start ≤ 132) (f : End) (ef : f ≡ end_at (drop e s)) (t : Bool) (et : t ≡ ends_line f) where
     -- a byte that is not allowed
-    bad_here : t ≡ false → e < length s → text_fault s ≡ some e
+    bad_here : t ≡ false → e < length s → text_fault s ≡ Some e
     unfolding text_fault
     bad_here z h =
-        let here : bad_byte 0 s ≡ some e = there.bad ∙ bad_at s e h ∙ rw (stops s start e is h, not_ended s e f ef t et z) in
+        let here : bad_byte 0 s ≡ Some e = there.bad ∙ bad_at s e h ∙ rw (stops s start e is h, not_ended s e f ef t et z) in
         ap (λ (o : Option ℕ). least o (later s)) here ∙ least_left e (later s) (later_from s e start (omega arith) (omega arith) there.long)
 
     -- the text's end, within a line
-    open_here : start < length s → length s ≤ e → text_fault s ≡ some e
+    open_here : start < length s → length s ≤ e → text_fault s ≡ Some e
     unfolding text_fault least unended
     open_here l h =
         let high : e ≤ length s = there.high in
         let all : e ≡ length s = omega arith in
-        let no-long : long_line (lines_of s) ≡ none = there.long ∙ long_on s start l e (there.line.goes ∙ next_last s e h) (omega (arith, there.line.ends, end_last s e h)) ∙ long_past s e h in
+        let no-long : long_line (lines_of s) ≡ None = there.long ∙ long_on s start l e (there.line.goes ∙ next_last s e h) (omega (arith, there.line.ends, end_last s e h)) ∙ long_past s e h in
         rw (bad_last s start e there h, no-long, fin_last s start e there h, ne_eqb start e (omega arith), all)
 
     pub checks_wrong : start < length s → t ≡ false → (r : Verdict) → r ≡ Refused (refusal_for wrong_text e) → paper_verdict r ≡ check_text s

@@ -4,7 +4,7 @@ use native.Mathlib.Numerals.{add-one}
 use native.Mathlib.Omega.{arith}
 use mathlib.Core.Path.{◌≡◌, refl, sym, ap, ap₂, ◌∙◌}
 use mathlib.Core.List.{List, [], ◌∷◌}
-use mathlib.Core.Option.{none, some}
+use Rattle.std.specs.Prelude.{None, Some}
 use mathlib.Core.Bool.{Bool, true, false, cond, ◌&&◌, and-true, and_assoc}
 use lib.ListN.{length, get_or, take, drop, length-drop, drop_of_length-le, get_or-eq_default}
 use lib.Seq.{drop-cons, drop-drop}
@@ -268,31 +268,31 @@ lines_last s at h = rw (drop_of_length-le s h)
 abbrev pub span_on : List ℕ → ℕ → Span
 span_on s at = record { start = at; end = end_of s at; next = next_of s at; ended = ending_of s at }
 
-pub span_here : (s : List ℕ) (at : ℕ) → at < length s → span_at s at ≡ some (span_on s at)
+pub span_here : (s : List ℕ) (at : ℕ) → at < length s → span_at s at ≡ Some (span_on s at)
 unfolding span_at end_of
 span_here s at h = ap span_of (lines_step s at h)
 
-pub span_none : (s : List ℕ) (at : ℕ) → length s ≤ at → span_at s at ≡ none
+pub span_none : (s : List ℕ) (at : ℕ) → length s ≤ at → span_at s at ≡ None
 unfolding span_at
 span_none s at h = ap span_of (lines_last s at h)
 
 -- ---- what was found: the line's places, or that the text has no byte there
 module _ (s : List ℕ) (at : ℕ) (r : Lined) (e : paper_lined r ≡ span_at s at) where
   pub found_none : r ≡ lined.Nothing → length s ≤ at
-  found_none q = by_order at (length s) (λ h. let z : none ≡ some (span_on s at) = sym (ap paper_lined q) ∙ e ∙ span_here s at h in apart cc) (λ h. h)
+  found_none q = by_order at (length s) (λ h. let z : None ≡ Some (span_on s at) = sym (ap paper_lined q) ∙ e ∙ span_here s at h in apart cc) (λ h. h)
 
   module _ (l : Span) (q : r ≡ lined.Line l) where
     pub found_here : at < length s
-    found_here = by_order at (length s) (λ h. h) (λ h. let z : some l ≡ none = sym (ap paper_lined q) ∙ e ∙ span_none s at h in apart cc)
+    found_here = by_order at (length s) (λ h. h) (λ h. let z : Some l ≡ None = sym (ap paper_lined q) ∙ e ∙ span_none s at h in apart cc)
 
     found_span : l ≡ span_on s at
-    found_span = let z : some l ≡ some (span_on s at) = sym (ap paper_lined q) ∙ e ∙ span_here s at found_here in cc
+    found_span = let z : Some l ≡ Some (span_on s at) = sym (ap paper_lined q) ∙ e ∙ span_here s at found_here in cc
 
     pub found_start : l.start ≡ at
     found_start = ap (λ (k : Span). k.start) found_span
 
     -- it is the line that is found from its own start on
-    pub found_again : span_at s l.start ≡ some l
+    pub found_again : span_at s l.start ≡ Some l
     found_again = ap (span_at s) found_start ∙ sym e ∙ ap paper_lined q
 
     pub found_end : l.end ≡ end_of s at
@@ -305,7 +305,7 @@ module _ (s : List ℕ) (at : ℕ) (r : Lined) (e : paper_lined r ≡ span_at s 
     found_ended = ap (λ (k : Span). k.ended) found_span
 
 -- a line's places, by its start
-module _ (s : List ℕ) (l : Span) (e : span_at s l.start ≡ some l) where
+module _ (s : List ℕ) (l : Span) (e : span_at s l.start ≡ Some l) where
   pub span_inside : l.start < length s
   span_inside = found_here s l.start (lined.Line l) (sym e) l refl
 
@@ -327,14 +327,14 @@ in_start s at = record { low = omega arith; ends = refl; goes = refl; how = refl
 
 module _ (s : List ℕ) (at i : ℕ) (v : InLine s at i) where
   spans : at < length s → (e n : ℕ) (x : End) → end_of s i ≡ e → next_of s i ≡ n → ending_of s i ≡ x
-      → some (record { start = at; end = e; next = n; ended = x }) ≡ span_at s at
+      → Some (record { start = at; end = e; next = n; ended = x }) ≡ span_at s at
   spans h e n x p q r = rw (span_here s at h, v.ends, v.goes, v.how, p, q, r)
 
-  pub in_last : at < length s → length s ≤ i → some (record { start = at; end = i; next = i; ended = Nothing }) ≡ span_at s at
+  pub in_last : at < length s → length s ≤ i → Some (record { start = at; end = i; next = i; ended = Nothing }) ≡ span_at s at
   in_last t h = spans t i i Nothing (end_last s i h) (next_last s i h) (ending_last s i h)
 
   pub in_on : i < length s → end_some (drop i s) ≡ false → InLine s at (i + 1)
   in_on h e = record { low = omega (arith, v.low); ends = v.ends ∙ end_on s i h e; goes = v.goes ∙ next_on s i h e; how = v.how ∙ ending_on s i h e }
 
-  pub in_here : end_some (drop i s) ≡ true → some (record { start = at; end = i; next = i + end_size (drop i s); ended = end_at (drop i s) }) ≡ span_at s at
+  pub in_here : end_some (drop i s) ≡ true → Some (record { start = at; end = i; next = i + end_size (drop i s); ended = end_at (drop i s) }) ≡ span_at s at
   in_here e = spans (omega (arith, v.low, end_bytes_lem s i e)) i (i + end_size (drop i s)) (end_at (drop i s)) (end_here s i e) (next_here s i e) (ending_here s i e)

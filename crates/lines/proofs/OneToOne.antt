@@ -1,6 +1,6 @@
 -- One answer for each input: what the paper says of a line that was found is said of no other answer. Assumes nothing.
 use mathlib.Core.Path.{◌≡◌, refl}
-use mathlib.Core.Option.{Option}
+use Rattle.std.specs.Prelude.{Option}
 use Rattle.laws.proofs.Tests.{apart}
 use Rattle.lines.specs.Spans.{paper_lined}
 use Rattle.lines.specs.declared.Span.{Span}

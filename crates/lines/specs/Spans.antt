@@ -1,6 +1,6 @@
 -- What the code's types mean: it serves the code, and is none of document 01.
 use Rattle.std.specs.Prelude.{ℕ, ◌+◌, ◌-◌, List, [], ◌∷◌, cond, length, take, drop}
-use Rattle.std.proofs.Math.Option.{Option, none, some}
+use Rattle.std.specs.Prelude.{Option, None, Some}
 use Rattle.lines.specs.Bytes.{word, begins}
 use Rattle.lines.specs.Lines.{Line, lines_from}
 use Rattle.lines.specs.declared.Span.{Span}
@@ -11,16 +11,16 @@ use Rattle.lines.specs.declared.End.TheVariants.{Lf, CrLf, CrCrLf, Nothing}
 
 -- the places of the first of these lines, if there is one
 abbrev pub span_of : List Line → Option Span
-span_of [] = none
-span_of (l ∷ ls) = some (record { start = l.start; end = l.start + length l.body; next = l.next; ended = l.ended })
+span_of [] = None
+span_of (l ∷ ls) = Some (record { start = l.start; end = l.start + length l.body; next = l.next; ended = l.ended })
 
 -- the line of the text that starts at `at`, if one starts there
 unfoldable pub span_at : List ℕ → ℕ → Option Span
 span_at text at = span_of (lines_from at (drop at text))
 
 abbrev pub paper_lined : Lined → Option Span
-paper_lined (lined.Line l) = some l
-paper_lined lined.Nothing = none
+paper_lined (lined.Line l) = Some l
+paper_lined lined.Nothing = None
 
 -- the bytes from one place up to another, as far as the text has them
 abbrev pub part : List ℕ → ℕ → ℕ → List ℕ

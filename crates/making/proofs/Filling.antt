@@ -6,8 +6,9 @@ use native.Mathlib.Omega.{arith}
 use mathlib.Core.Path.{◌≡◌, refl, sym, ap, ap₂, ◌∙◌, subst}
 use mathlib.Core.Logic.{◌≢◌}
 use mathlib.Core.List.{List, [], ◌∷◌, ◌++◌}
-use mathlib.Core.Option.{Option, none, some}
-use lib.ListN.{length, take, drop, get_or, get_elem?, length-drop}
+use Rattle.std.specs.Prelude.{Option, None, Some}
+use lib.ListN.{length, take, drop, get_or, length-drop}
+use Rattle.std.specs.Prelude.{slice_get}
 use lib.Dec.{eqb, leb}
 use lib.Seq.{get_or-take, take-suc, length-take-le}
 use mir.Syntax.{w32, w64}
@@ -48,14 +49,14 @@ counted_kept start d c h e =
     subst Kept same (record { few = leb-true (length d.places) capacity t; low = h }))
     (λ t. let w : refused too_many_places start ≡ ok c = rw t at e in apart cc)
 
-dated_kept : (start at : ℕ) (ps : List ℕ) (o : Option ℕ) (c : codes.Content) → ((t : ℕ) → o ≡ some t → t < 4294967296) → dated start at ps o ≡ ok c → Kept c
-dated_kept start at ps none c h e = apart cc
-dated_kept start at ps (some t) c h e = counted_kept start (record { purge = t; places = ps }) c (h t refl) e
+dated_kept : (start at : ℕ) (ps : List ℕ) (o : Option ℕ) (c : codes.Content) → ((t : ℕ) → o ≡ Some t → t < 4294967296) → dated start at ps o ≡ ok c → Kept c
+dated_kept start at ps None c h e = apart cc
+dated_kept start at ps (Some t) c h e = counted_kept start (record { purge = t; places = ps }) c (h t refl) e
 
 in_kept : (issue start : ℕ) (w : Option ℕ) (r : Read) (c : codes.Content) → content_in issue start w r ≡ ok c → Kept c
 in_kept issue start w (wrong_at place) c e = apart cc
-in_kept issue start (some y) (block ps s at) c e = apart cc
-in_kept issue start none (block ps s at) c e = dated_kept start at ps (purge_of issue s) c (λ t q. omega (arith, purge_low issue s t q)) e
+in_kept issue start (Some y) (block ps s at) c e = apart cc
+in_kept issue start None (block ps s at) c e = dated_kept start at ps (purge_of issue s) c (λ t q. omega (arith, purge_low issue s t q)) e
 
 pub content_kept : (text : List ℕ) (issue start : ℕ) (c : codes.Content) → content_at text issue start ≡ ok c → Kept c
 unfolding content_at
@@ -76,23 +77,23 @@ contents_more i kept (x ∷ gs) g =
     ap (λ (cs : List codes.Content). record { purge = x.purge; places = take x.count (drop (capacity * i) kept) } ∷ cs) (contents_more (suc i) kept gs g ∙ rw e)
 
 -- ---- a book whose blocks are all unused
-pub filled_none : (l : List ℕ) → length l ≡ book_length → ((k : ℕ) → k < block_count → block_of k l ≡ holding none) → Filled [] l
+pub filled_none : (l : List ℕ) → length l ≡ book_length → ((k : ℕ) → k < block_count → block_of k l ≡ holding None) → Filled [] l
 filled_none l h f = record { long = h; first = f 0 (omega arith); blocks = λ k n. f (suc k) (omega arith) }
 
 -- one block more
 module _ (cs : List codes.Content) (l : List ℕ) (f : Filled cs l) (i : ℕ) (at : length cs ≡ i) (low : i < 48) (c : codes.Content) (few : length c.places ≤ capacity) where
-  filled_more : Filled (cs ++ (c ∷ [])) (put_block (suc i) (holding (some c)) l)
+  filled_more : Filled (cs ++ (c ∷ [])) (put_block (suc i) (holding (Some c)) l)
   filled_more =
-      let b : List ℕ = holding (some c) in
+      let b : List ℕ = holding (Some c) in
       let w : length b ≡ block_length = used_length c few in
       let m : length l ≡ book_length = f.long in
-      let last : get_elem? (cs ++ (c ∷ [])) i ≡ some c = ap (get_elem? (cs ++ (c ∷ []))) (sym at) ∙ get_last cs c in
+      let last : slice_get (cs ++ (c ∷ [])) i ≡ Some c = ap (slice_get (cs ++ (c ∷ []))) (sym at) ∙ get_last cs c in
       record {
         long = put_length (suc i) l b (omega arith) w ∙ m;
         first = put_other_block 49 (suc i) l b (omega arith) m w 0 (omega arith) (ne_of_lt (omega arith)) ∙ f.first;
         blocks = λ k n. by (eqb k i)
             (λ t. let e : i ≡ k = sym (eqb-true k i t) in
-            subst (λ (j : ℕ). block_of (suc j) (put_block (suc i) b l) ≡ holding (get_elem? (cs ++ (c ∷ [])) j)) e (put_same_block 49 (suc i) l b (omega arith) m w ∙ ap holding (sym last)))
+            subst (λ (j : ℕ). block_of (suc j) (put_block (suc i) b l) ≡ holding (slice_get (cs ++ (c ∷ [])) j)) e (put_same_block 49 (suc i) l b (omega arith) m w ∙ ap holding (sym last)))
             (λ t. let other : k ≢ i = eqb-false k i t in
             put_other_block 49 (suc i) l b (omega arith) m w (suc k) (omega arith) (λ e. other (suc_inj e)) ∙ f.blocks k n
             ∙ ap holding (sym (get_more cs c k (λ e. other (e ∙ at)))));
@@ -134,7 +135,7 @@ module _ (kept : List ℕ) (held : List Segment) (count i : ℕ) (l : List ℕ) 
       filling_few = rw (length-take-le (capacity * i + (get_or held i z).count - capacity * i) (drop (capacity * i) kept) (rw length-drop (omega (arith, filling_end)))) (omega (arith, fits.few))
 
       pub filling_on : (d : List ℕ)
-          → d ≡ put_block (i + 1) (holding (some (record { purge = (get_or held i z).purge; places = take (capacity * i + (get_or held i z).count - capacity * i) (drop (capacity * i) kept) }))) l
+          → d ≡ put_block (i + 1) (holding (Some (record { purge = (get_or held i z).purge; places = take (capacity * i + (get_or held i z).count - capacity * i) (drop (capacity * i) kept) }))) l
           → Filling kept held count (i + 1) d
       filling_on d e =
           let g : Segment = get_or held i z in
@@ -142,8 +143,8 @@ module _ (kept : List ℕ) (held : List Segment) (count i : ℕ) (l : List ℕ) 
           let eight : count ≤ 8 = v.sized.few in
           let wide : length held ≡ 8 = v.sized.long in
           let n : capacity * i + g.count - capacity * i ≡ g.count = omega arith in
-          let same : d ≡ put_block (suc i) (holding (some c)) l =
-          e ∙ ap₂ (λ (k j : ℕ). put_block k (holding (some (record { purge = g.purge; places = take j (drop (capacity * i) kept) }))) l) (add-one i) n in
+          let same : d ≡ put_block (suc i) (holding (Some c)) l =
+          e ∙ ap₂ (λ (k j : ℕ). put_block k (holding (Some (record { purge = g.purge; places = take j (drop (capacity * i) kept) }))) l) (add-one i) n in
           let taken : length (take i held) ≡ i = length-take-le i held (omega arith) in
           let cs : List codes.Content = contents_from 0 kept (take i held) in
           let are : contents_from 0 kept (take (i + 1) held) ≡ cs ++ (c ∷ []) =

@@ -4,8 +4,9 @@ use native.Mathlib.Nat.{ne_of_gt}
 use native.Mathlib.Omega.{arith}
 use mathlib.Core.Path.{◌≡◌, refl, sym, ap, ◌∙◌}
 use mathlib.Core.List.{List, [], ◌∷◌}
-use mathlib.Core.Option.{none}
-use lib.ListN.{length, get_elem?, set, replicate, length-set, take-append-drop}
+use Rattle.std.specs.Prelude.{None}
+use lib.ListN.{length, set, replicate, length-set, take-append-drop}
+use Rattle.std.specs.Prelude.{slice_get}
 use lib.Seq.{sets}
 use borrow.Author.Tests.{lt-ltb, le-ltb}
 use Rattle.laws.proofs.Tests.{by_order}
@@ -26,7 +27,7 @@ use Rattle.making.specs.Fill.{Filled, Indexed}
 
 -- ---- the other blocks
 -- a new book has no copies
-no_copies : (d n : ℕ) → held_of (get_elem? (copies_of (or_closed (get_elem? (closed ∷ closed ∷ closed ∷ closed ∷ []) d))) n) ≡ none
+no_copies : (d n : ℕ) → held_of (slice_get (copies_of (or_closed (slice_get (closed ∷ closed ∷ closed ∷ closed ∷ []) d))) n) ≡ None
 no_copies zero n = refl
 no_copies (suc zero) n = refl
 no_copies (suc (suc zero)) n = refl
@@ -45,13 +46,13 @@ behind k h =
     (λ g. rw (le-ltb (suc k) 9 (omega arith), lt-ltb (suc k) 17 (omega arith)) (of_draft ((suc k - 9) / 2) ((suc k - 9) % 2)))
     (λ g. rw (le-ltb (suc k) 9 (omega arith), le-ltb (suc k) 17 (omega arith)) (of_step ((suc k - 17) / 2) ((suc k - 17) % 2)))
 
-behind_none : (issue : ℕ) (cs : List Content) (p : Part) → Behind p → held_in (new_book issue cs) p ≡ none
+behind_none : (issue : ℕ) (cs : List Content) (p : Part) → Behind p → held_in (new_book issue cs) p ≡ None
 unfolding held_in
 behind_none issue cs _ (of_draft d n) = no_copies d n
 behind_none issue cs _ (of_step s n) = refl
 
 -- block k + 1 of a new book holds segment k's content, if there is one
-pub new_held : (issue : ℕ) (cs : List Content) (k : ℕ) → length cs ≤ 8 → held_in (new_book issue cs) (part_of (suc k)) ≡ get_elem? cs k
+pub new_held : (issue : ℕ) (cs : List Content) (k : ℕ) → length cs ≤ 8 → held_in (new_book issue cs) (part_of (suc k)) ≡ slice_get cs k
 unfolding held_in
 new_held issue cs k h =
     by_order k 8
@@ -92,9 +93,9 @@ module _ (l : List ℕ) (issue n : ℕ) where
     unfolding index b
     wide = simp length-set (index_length b refl (omega arith))
 
-    unsealed_is : set (sets (put_block 0 (holding none) l) 0 (bytes32 issue)) 4 n ≡ unsealed
+    unsealed_is : set (sets (put_block 0 (holding None) l) 0 (bytes32 issue)) 4 n ≡ unsealed
     unfolding unsealed index b x y holding sealed
-    unsealed_is = ap (λ (j : ℕ). set (sets (put_block 0 (holding none) l) 0 (bytes32 issue)) 4 j) (sym m) ∙ index_stored issue cs x y l
+    unsealed_is = ap (λ (j : ℕ). set (sets (put_block 0 (holding None) l) 0 (bytes32 issue)) 4 j) (sym m) ∙ index_stored issue cs x y l
 
     unsealed_lies : Lies unsealed b
     unfolding unsealed index b block_bytes
@@ -115,7 +116,7 @@ module _ (l : List ℕ) (issue n : ℕ) where
 
     made_all : (l₁ d : List ℕ) → l₁ ≡ sets l 0 (bytes32 issue) → d ≡ put_block 0 (sealed (block_of 0 (set l₁ 4 n))) (set l₁ 4 n) → d ≡ bytes_of (new_book issue cs)
     made_all l₁ d e₁ e =
-        let back : l ≡ put_block 0 (holding none) l = sym (put_back l) ∙ ap (λ (z : List ℕ). put_block 0 z l) f.first in
+        let back : l ≡ put_block 0 (holding None) l = sym (put_back l) ∙ ap (λ (z : List ℕ). put_block 0 z l) f.first in
         let u : set l₁ 4 n ≡ unsealed = ap (λ (z : List ℕ). set z 4 n) (e₁ ∙ ap (λ (z : List ℕ). sets z 0 (bytes32 issue)) back) ∙ unsealed_is in
         made_is d (e ∙ ap (λ (z : List ℕ). put_block 0 (sealed (block_of 0 z)) z) u)
 

@@ -4,8 +4,9 @@ use native.Mathlib.Nat.{add-zero, zero-add}
 use native.Mathlib.Omega.{arith}
 use mathlib.Core.Path.{◌≡◌, refl, sym, ap, ap₂, ◌∙◌, subst}
 use mathlib.Core.List.{List, [], ◌∷◌, map}
-use mathlib.Core.Option.{some}
-use lib.ListN.{length, take, drop, get_elem?, length-map}
+use Rattle.std.specs.Prelude.{Some}
+use lib.ListN.{length, take, drop, length-map}
+use Rattle.std.specs.Prelude.{slice_get}
 use lib.Seq.{length-take-le}
 use borrow.Author.Tests.{ne_eqb}
 use Rattle.laws.proofs.Lists.{all_each}
@@ -43,7 +44,7 @@ abbrev content_of : segments.Segment → Content
 content_of g = g.content
 
 contents_by : (kept : List ℕ) (i : ℕ) (gs : List segments.Segment)
-    → ((k : ℕ) (g : segments.Segment) → get_elem? gs k ≡ some g → take (length g.content.places) (drop (capacity * (i + k)) kept) ≡ g.content.places)
+    → ((k : ℕ) (g : segments.Segment) → slice_get gs k ≡ Some g → take (length g.content.places) (drop (capacity * (i + k)) kept) ≡ g.content.places)
     → contents_from i kept (map seen gs) ≡ map content_of gs
 unfolding contents_from
 contents_by kept i [] f = refl

@@ -4,7 +4,7 @@ use native.Mathlib.Omega.{arith}
 use mathlib.Core.Path.{◌≡◌, refl}
 use mathlib.Core.Bool.{Bool, true, false}
 use mathlib.Core.List.{List, map}
-use mathlib.Core.Option.{Option, none, some}
+use Rattle.std.specs.Prelude.{Option, None, Some}
 use lib.ListN.{length, length-map}
 use borrow.Author.Tests.{lt-ltb}
 use Rattle.laws.proofs.Tests.{apart}
@@ -34,18 +34,18 @@ pub must_true : (t : Bool) (reason : Reason) (place : ℕ) → must t reason pla
 must_true true reason place e = refl
 must_true false reason place e = apart cc
 
-issued_some : (o : Option ℕ) (t : ℕ) → issued o ≡ ok t → o ≡ some t
-issued_some none t e = apart cc
-issued_some (some m) t e = cc
+issued_some : (o : Option ℕ) (t : ℕ) → issued o ≡ ok t → o ≡ Some t
+issued_some None t e = apart cc
+issued_some (Some m) t e = cc
 
 -- a date of the years up to 2099 stands before the end of the issues' months
-pub date_before : (d : Date) (t : ℕ) → minute_of d ≡ some t → d.year ≤ 2099 → t < start_of issue_months
+pub date_before : (d : Date) (t : ℕ) → minute_of d ≡ Some t → d.year ≤ 2099 → t < start_of issue_months
 unfolding date_of
 date_before d t e h = go (month_of t) refl (minute_date d t e)
   where
-    go : (o : Option ℕ) → month_of t ≡ o → date_in t o ≡ some d → t < start_of issue_months
-    go none q f = apart cc
-    go (some k) q f =
+    go : (o : Option ℕ) → month_of t ≡ o → date_in t o ≡ Some d → t < start_of issue_months
+    go None q f = apart cc
+    go (Some k) q f =
         let same : record { year = year_of k; month = month_of_year k; stamp = stamp_after (t - start_of k) } ≡ d = cc in
         let year : year_of k ≡ d.year = λ i. (same i).year in
         let low : suc k ≤ issue_months = omega arith in
@@ -53,7 +53,7 @@ date_before d t e h = go (month_of t) refl (minute_date d t e)
 
 -- the issue of a bulletin that is read has the year and the month under which it was read,
 pub made_dated : (text : List ℕ) (year month : ℕ) (b : Bulletin) (e : read_bulletin text year month ≡ ok b)
-    → date_of b.issue ≡ some (record { year = year; month = month; stamp = (read_back text year month b e).stamp })
+    → date_of b.issue ≡ Some (record { year = year; month = month; stamp = (read_back text year month b e).stamp })
 made_dated text year month b e = minute_date _ b.issue (issued_some _ b.issue (read_back text year month b e).dated)
 
 -- and is of the years 1970..2099

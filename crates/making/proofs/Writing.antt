@@ -4,7 +4,7 @@ use native.Mathlib.Omega.{arith}
 use mathlib.Core.Path.{◌≡◌, refl, sym, ap, ◌∙◌}
 use mathlib.Core.Bool.{Bool, true, false}
 use mathlib.Core.List.{List}
-use mathlib.Core.Option.{Option, none, some}
+use Rattle.std.specs.Prelude.{Option, None, Some}
 use lib.ListN.{length, take, get_or}
 use borrow.Author.Tests.{ne_eqb, le-leb}
 use Rattle.laws.proofs.Tests.{apart}
@@ -48,51 +48,51 @@ ruled l before after s r a e f g = record { answer = f ∙ ap length_of (sym e);
 -- the writer's rule gives a block of the content c, and that is the block of segment s
 pub record SegmentBlock (b : Book) (s : ℕ) (c : Content) : Type 0 where
   pub block : List ℕ
-  pub is : segment_block b s ≡ some block
+  pub is : segment_block b s ≡ Some block
   pub given : written_block CrCrLf c.places c.purge ≡ ok block
 
 -- In a sound book each segment that exists has a written block that reads back to it, whichever of the three ends its lines have,
-pub segment_back : (end : End) → ends_line end ≡ true → (l : List ℕ) → Bytes l → is_sound l ≡ true → (s : ℕ) (c : Content) → at (book_of l).segments s ≡ some c
+pub segment_back : (end : End) → ends_line end ≡ true → (l : List ℕ) → Bytes l → is_sound l ≡ true → (s : ℕ) (c : Content) → at (book_of l).segments s ≡ Some c
     → ReadsBack end (book_of l).issue c
 segment_back end so l y e s c q =
     let f = (all_stands (book_of l).segments s c (sound_book l y e).contents q).is in
     write_read end so _ c (fine_places _ c f) (fine_purge _ c f)
 
 -- and so the write call's block: the writer's 24 is never met;
-pub segment_block_lem : (l : List ℕ) → Bytes l → is_sound l ≡ true → (s : ℕ) (c : Content) → at (book_of l).segments s ≡ some c → SegmentBlock (book_of l) s c
+pub segment_block_lem : (l : List ℕ) → Bytes l → is_sound l ≡ true → (s : ℕ) (c : Content) → at (book_of l).segments s ≡ Some c → SegmentBlock (book_of l) s c
 unfolding segment_block
 segment_block_lem l y e s c q =
     let w = segment_back CrCrLf refl l y e s c q in
     record { block = w.block; is = rw (q, w.given); given = w.given }
 
 -- one that does not exist has none.
-no_block : (b : Book) (s : ℕ) → at b.segments s ≡ none → segment_block b s ≡ none
+no_block : (b : Book) (s : ℕ) → at b.segments s ≡ None → segment_block b s ≡ None
 unfolding segment_block
 no_block b s q = rw q
 
 pub data Blocked (b : Book) (s : ℕ) : Type 0 where
-  no_segment_lem : at b.segments s ≡ none → segment_block b s ≡ none → Blocked b s
-  a_segment : (c : Content) → at b.segments s ≡ some c → SegmentBlock b s c → Blocked b s
+  no_segment_lem : at b.segments s ≡ None → segment_block b s ≡ None → Blocked b s
+  a_segment : (c : Content) → at b.segments s ≡ Some c → SegmentBlock b s c → Blocked b s
 
 pub segment_blocked : (l : List ℕ) → Bytes l → is_sound l ≡ true → (s : ℕ) → Blocked (book_of l) s
 segment_blocked l y e s = go (at (book_of l).segments s) refl
   where
     go : (o : Option Content) → at (book_of l).segments s ≡ o → Blocked (book_of l) s
-    go none q = no_segment_lem q (no_block (book_of l) s q)
-    go (some c) q = a_segment c q (segment_block_lem l y e s c q)
+    go None q = no_segment_lem q (no_block (book_of l) s q)
+    go (Some c) q = a_segment c q (segment_block_lem l y e s c q)
 
 -- No block of a segment has more than 1,216 bytes.
-pub segment_most : (b : Book) (s : ℕ) (block : List ℕ) → segment_block b s ≡ some block → length block ≤ written_block_most
+pub segment_most : (b : Book) (s : ℕ) (block : List ℕ) → segment_block b s ≡ Some block → length block ≤ written_block_most
 unfolding segment_block
 segment_most b s block e = go (at b.segments s) e
   where
-    given : (c : Content) (a : Answer (List ℕ)) → written_block CrCrLf c.places c.purge ≡ a → block_given a ≡ some block → length block ≤ written_block_most
+    given : (c : Content) (a : Answer (List ℕ)) → written_block CrCrLf c.places c.purge ≡ a → block_given a ≡ Some block → length block ≤ written_block_most
     given c (ok x) q f = let same : x ≡ block = cc in rw (← same) (block_most_lem CrCrLf c.places c.purge x q)
     given c (no number place) q f = apart cc
 
-    go : (o : Option Content) → content_form o ≡ some block → length block ≤ written_block_most
-    go none f = apart cc
-    go (some c) f = given c (written_block CrCrLf c.places c.purge) refl f
+    go : (o : Option Content) → content_form o ≡ Some block → length block ≤ written_block_most
+    go None f = apart cc
+    go (Some c) f = given c (written_block CrCrLf c.places c.purge) refl f
 
 -- where there is a block, only the room for it is asked
 pub rule_block : (end : End) (room : ℕ) (c : Content) (block : List ℕ) → written_block end c.places c.purge ≡ ok block
@@ -124,10 +124,10 @@ module _ (l before : List ℕ) (s : ℕ) where
     write_broken b f g r e = ruled l before before s r (refused not_sound 0) (rule_broken l s (length before) h (sym f ∙ g)) (ap paper_written e) refl
 
     module _ (sound : is_sound l ≡ true) where
-      not_there : at (book_of l).segments s ≡ none → (r : Written) → r ≡ written.Refused (refusal_for no_such_segment 0) → WritesOn l before before s r
+      not_there : at (book_of l).segments s ≡ None → (r : Written) → r ≡ written.Refused (refusal_for no_such_segment 0) → WritesOn l before before s r
       unfolding and_then
       not_there f r e =
-          ruled l before before s r (refused no_such_segment 0) (rule_sound l s (length before) h sound none (no_block (book_of l) s f)) (ap paper_written e) refl
+          ruled l before before s r (refused no_such_segment 0) (rule_sound l s (length before) h sound None (no_block (book_of l) s f)) (ap paper_written e) refl
 
       pub write_low : s < 1 → (r : Written) → r ≡ written.Refused (refusal_for no_such_segment 0) → WritesOn l before before s r
       write_low g r e = let z : s ≡ 0 = omega arith in not_there (ap (λ (k : ℕ). at (book_of l).segments k) z) r e
@@ -157,8 +157,8 @@ module _ (l before : List ℕ) (s : ℕ) where
               (good_used l p s f (omega arith) (ap (λ (k : ℕ). used l k) z ∙ used_segment l (s - 1) (omega arith) ∙ le-leb (suc (s - 1)) (get_or l 4 0) (omega arith)))
               ).few
 
-          here : at (book_of l).segments s ≡ some (content_of (block_of s l))
-          here = ap (λ (k : ℕ). at (book_of l).segments k) z ∙ segment_of_lem l (s - 1) (omega arith) ∙ ap (λ (k : ℕ). some (content_of (block_of k l))) (sym z)
+          here : at (book_of l).segments s ≡ Some (content_of (block_of s l))
+          here = ap (λ (k : ℕ). at (book_of l).segments k) z ∙ segment_of_lem l (s - 1) (omega arith) ∙ ap (λ (k : ℕ). Some (content_of (block_of k l))) (sym z)
 
           pub write_one : Bytes l → (q : Held) → held_content q ≡ content_of (block_of s l) → (after : List ℕ) (r : Written)
               → Writes before after (take (q.count - 0) q.places) q.purge r → WritesOn l before after s r
@@ -172,6 +172,6 @@ module _ (l before : List ℕ) (s : ℕ) where
               ∙ ap (λ (x : Content). write_rule CrCrLf (length before) x.places x.purge) e
               ∙ rule_block CrCrLf (length before) (content_of (block_of s l)) b.block b.given in
               ruled l before after s r a
-              (rule_sound l s (length before) h sound (some b.block) b.is)
+              (rule_sound l s (length before) h sound (Some b.block) b.is)
               (w.answer ∙ ap length_of v)
               (w.output ∙ ap (λ (x : Answer (List ℕ)). output_of x before) v)

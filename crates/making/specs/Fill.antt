@@ -1,7 +1,7 @@
 -- What the code keeps true while it makes a book: which contents the blocks hold, and what is left before block 0 is written.
 use Rattle.std.specs.Prelude.{ℕ, suc, ◌*◌, ◌≤◌, ◌<◌, ◌≡◌, List, [], ◌∷◌, length, take, drop}
-use Rattle.std.proofs.Math.Option.{none}
-use Rattle.std.proofs.Math.ListN.{get_elem?}
+use Rattle.std.specs.Prelude.{None}
+use Rattle.std.specs.Prelude.{slice_get}
 use Rattle.codes.specs.Places.{capacity}
 use Rattle.codes.specs.Block.{Content}
 use Rattle.segments.specs.declared.Segment.{Segment}
@@ -23,8 +23,8 @@ pub record Storable (g : Segment) : Type 0 where
 -- the blocks after block 0 hold these contents, and the others are unused
 pub record Filled (cs : List Content) (l : List ℕ) : Type 0 where
   pub long : length l ≡ book_length
-  pub first : block_of 0 l ≡ holding none
-  pub blocks : (k : ℕ) → k < 48 → block_of (suc k) l ≡ holding (get_elem? cs k)
+  pub first : block_of 0 l ≡ holding None
+  pub blocks : (k : ℕ) → k < 48 → block_of (suc k) l ≡ holding (slice_get cs k)
 
 -- whatever contents the blocks hold, they are a new book's
 pub record Indexed (before : List ℕ) (issue n : ℕ) (after : List ℕ) : Type 0 where

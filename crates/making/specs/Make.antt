@@ -1,6 +1,6 @@
 -- Document 01, "Steps": make and write.
 use Rattle.std.specs.Prelude.{ℕ, ◌≡◌, List, map, length, eqb}
-use Rattle.std.proofs.Math.Option.{Option, none, some}
+use Rattle.std.specs.Prelude.{Option, None, Some}
 use Rattle.refusal.specs.Numbers.{wrong_length, not_sound, no_such_segment}
 use Rattle.refusal.specs.Answer.{Answer, ok, no, refused, must, and_then, paper_verdict}
 use Rattle.refusal.specs.declared.Verdict.{Verdict}
@@ -40,17 +40,17 @@ pub record Makes (before after text : List ℕ) (year month : ℕ) (r : Verdict)
 -- ---- "Write: a segment's block, from the book, into a lent output": 1, 12, "15, then 23 after 12"
 -- "no such segment"
 abbrev pub or_no_segment : {A : Type 0} → Option A → Answer A
-or_no_segment none = refused no_such_segment 0
-or_no_segment (some x) = ok x
+or_no_segment None = refused no_such_segment 0
+or_no_segment (Some x) = ok x
 
 -- a segment's block: what `writing` gives for its places and purge, with lines that "end CR CR LF". In a sound book it gives one for every segment (`segment_blocked`).
 abbrev pub block_given : Answer (List ℕ) → Option (List ℕ)
-block_given (ok block) = some block
-block_given (no number place) = none
+block_given (ok block) = Some block
+block_given (no number place) = None
 
 abbrev pub content_form : Option Content → Option (List ℕ)
-content_form none = none
-content_form (some c) = block_given (written_block CrCrLf c.places c.purge)
+content_form None = None
+content_form (Some c) = block_given (written_block CrCrLf c.places c.purge)
 
 unfoldable pub segment_block : Book → ℕ → Option (List ℕ)
 segment_block b s = content_form (at b.segments s)

@@ -3,7 +3,7 @@ use Prim.Native.Nat.{ℕ, zero, suc, ◌+◌, ◌-◌, ◌*◌, ◌/◌, ◌%◌
 use native.Mathlib.Omega.{arith}
 use mathlib.Core.Path.{◌≡◌, refl, ap, ◌∙◌}
 use mathlib.Core.Bool.{Bool, true, ◌&&◌}
-use mathlib.Core.Option.{Option, none, some}
+use Rattle.std.specs.Prelude.{Option, None, Some}
 use lib.Dec.{leb, ltb, eqb}
 use borrow.Author.Tests.{leb-true, ltb-true, ltb-false, lt-ltb, eqb-true, eqb-false}
 use Rattle.laws.proofs.Tests.{by, by_order, impossible, apart, and_left, and_right, same_test}
@@ -130,8 +130,8 @@ pub record Falls (t k : ℕ) : Type 0 where
 
 -- what `month_from` answers: none from month n on, else the month
 data Answers (t n : ℕ) : Option ℕ → Type 0 where
-  past : start_of n ≤ t → Answers t n none
-  falls : (k : ℕ) → start_of k ≤ t → t < start_of (suc k) → k < n → Answers t n (some k)
+  past : start_of n ≤ t → Answers t n None
+  falls : (k : ℕ) → start_of k ≤ t → t < start_of (suc k) → k < n → Answers t n (Some k)
 
 answers : (n k t : ℕ) → start_of k ≤ t → Answers t (k + n) (month_from n k (t - start_of k))
 unfolding month_from
@@ -152,22 +152,22 @@ month_answers t =
     let e : t - start_of 0 ≡ t = omega (arith, start_first) in rw e at (answers all_months 0 t (omega (arith, start_first)))
 
 -- the month that is answered is the one that the minute falls in
-pub month_some : (t k : ℕ) → month_of t ≡ some k → Falls t k
+pub month_some : (t k : ℕ) → month_of t ≡ Some k → Falls t k
 month_some t k e = go (month_of t) (month_answers t) e
   where
-    go : (o : Option ℕ) → Answers t all_months o → o ≡ some k → Falls t k
-    go none (past h) q = apart cc
-    go (some _) (falls j low high known) q =
+    go : (o : Option ℕ) → Answers t all_months o → o ≡ Some k → Falls t k
+    go None (past h) q = apart cc
+    go (Some _) (falls j low high known) q =
         let same : j ≡ k = cc in
         rw (← same) (record { low = low; high = high; known = known })
 
 -- no month is answered only past the calendar's end
-pub month_none : (t : ℕ) → month_of t ≡ none → 68418720 ≤ t
+pub month_none : (t : ℕ) → month_of t ≡ None → 68418720 ≤ t
 month_none t e = go (month_of t) (month_answers t) e
   where
-    go : (o : Option ℕ) → Answers t all_months o → o ≡ none → 68418720 ≤ t
-    go none (past h) q = omega (arith, start_end_lem)
-    go (some j) a q = apart cc
+    go : (o : Option ℕ) → Answers t all_months o → o ≡ None → 68418720 ≤ t
+    go None (past h) q = omega (arith, start_end_lem)
+    go (Some j) a q = apart cc
 
 -- what falls in a month of the calendar stands before its end
 pub falls_low : (t k : ℕ) → Falls t k → t < 68418720
@@ -184,12 +184,12 @@ falls_one t j k f g =
     (λ l. omega arith))
 
 -- the month that a minute falls in is answered
-pub month_is : (t k : ℕ) → Falls t k → month_of t ≡ some k
+pub month_is : (t k : ℕ) → Falls t k → month_of t ≡ Some k
 month_is t k f = go (month_of t) refl
   where
-    go : (o : Option ℕ) → month_of t ≡ o → month_of t ≡ some k
-    go none e = impossible (omega (arith, month_none t e, falls_low t k f))
-    go (some j) e = e ∙ ap some (falls_one t j k (month_some t j e) f)
+    go : (o : Option ℕ) → month_of t ≡ o → month_of t ≡ Some k
+    go None e = impossible (omega (arith, month_none t e, falls_low t k f))
+    go (Some j) e = e ∙ ap Some (falls_one t j k (month_some t j e) f)
 
 -- a minute before the issues' end falls in a month that an issue may have, and no other does
 pub issue_test : (t k : ℕ) → Falls t k → ltb t (start_of issue_months) ≡ ltb k issue_months
@@ -202,9 +202,9 @@ issue_test t k f =
     (λ h. lt-ltb t (start_of issue_months) (omega (arith, f.high, start_mono (suc k) issue_months (ltb-true k issue_months h))))
 
 -- no month is answered past the calendar's end
-pub month_past : (t : ℕ) → 68418720 ≤ t → month_of t ≡ none
+pub month_past : (t : ℕ) → 68418720 ≤ t → month_of t ≡ None
 month_past t h = go (month_of t) refl
   where
-    go : (o : Option ℕ) → month_of t ≡ o → month_of t ≡ none
-    go none e = e
-    go (some j) e = impossible (omega (arith, falls_low t j (month_some t j e)))
+    go : (o : Option ℕ) → month_of t ≡ o → month_of t ≡ None
+    go None e = e
+    go (Some j) e = impossible (omega (arith, falls_low t j (month_some t j e)))

@@ -2,7 +2,7 @@
 use Prim.Native.Nat.{ℕ, suc, ◌+◌, ◌-◌, ◌*◌, ◌/◌, ◌≤◌, ◌<◌}
 use native.Mathlib.Omega.{arith}
 use mathlib.Core.Path.{◌≡◌, refl, sym, ap, ◌∙◌}
-use mathlib.Core.Option.{Option, none, some}
+use Rattle.std.specs.Prelude.{Option, None, Some}
 use mir.Syntax.{w64}
 use mir.Val.{Fits}
 use Rattle.laws.proofs.Tests.{by_order, impossible, apart}
@@ -127,7 +127,7 @@ module _ (t n : ℕ) where
         let low : start_of k ≤ t = omega (arith, v.here, v.low) in
         let known : k < all_months = by_order k all_months (λ l. l) (λ l. impossible (omega (arith, start_mono all_months k l, start_end_lem, v.end))) in
         rw (month_is t k (record { low = low; high = omega (arith, here_next); known = known }))
-        (ap some (month_path (omega (arith, v.first, v.last)) (omega (arith, v.first, v.last)) v.here here_days))
+        (ap Some (month_path (omega (arith, v.first, v.last)) (omega (arith, v.first, v.last)) v.here here_days))
 
 pub month_gone : (t : ℕ) → 68418720 ≤ t → paper_found found.Nothing ≡ month_in (month_of t)
 month_gone t h = rw (month_past t h)
@@ -136,7 +136,7 @@ month_gone t h = rw (month_past t h)
 -- minute t falls in month k, which is m
 pub record Stands (t : ℕ) (m : Month) : Type 0 where
   pub k : ℕ
-  pub found_at : month_of t ≡ some k
+  pub found_at : month_of t ≡ Some k
   pub falls : Falls t k
   pub year : m.year ≡ year_of k
   pub month : m.month ≡ month_of_year k
@@ -144,19 +144,19 @@ pub record Stands (t : ℕ) (m : Month) : Type 0 where
   pub days : m.days ≡ days_in k
 
 module _ (t : ℕ) (r : Found) (e : paper_found r ≡ month_in (month_of t)) where
-  pub none_found : r ≡ found.Nothing → month_of t ≡ none
+  pub none_found : r ≡ found.Nothing → month_of t ≡ None
   none_found q = go (month_of t) refl (rw q at e)
     where
-      go : (o : Option ℕ) → month_of t ≡ o → none ≡ month_in o → month_of t ≡ none
-      go none p h = p
-      go (some k) p h = apart cc
+      go : (o : Option ℕ) → month_of t ≡ o → None ≡ month_in o → month_of t ≡ None
+      go None p h = p
+      go (Some k) p h = apart cc
 
   pub stands : (m : Month) → r ≡ found.In m → Stands t m
   stands m q = go (month_of t) refl (rw q at e)
     where
-      go : (o : Option ℕ) → month_of t ≡ o → some m ≡ month_in o → Stands t m
-      go none p h = apart cc
-      go (some k) p h =
+      go : (o : Option ℕ) → month_of t ≡ o → Some m ≡ month_in o → Stands t m
+      go None p h = apart cc
+      go (Some k) p h =
           let same : m ≡ month_at k = cc in
           record {
             k = k;

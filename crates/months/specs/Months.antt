@@ -1,6 +1,6 @@
 -- Document 01, "Time": months, and the minutes at which they start.
 use Rattle.std.specs.Prelude.{ℕ, zero, suc, ◌+◌, ◌-◌, ◌*◌, ◌/◌, ◌%◌, Bool, true, false, cond, ltb, eqb}
-use Rattle.std.proofs.Math.Option.{Option, none, some}
+use Rattle.std.specs.Prelude.{Option, None, Some}
 
 -- ---- months
 -- "In these years every fourth is a leap year." 1972 is the first of them.
@@ -86,8 +86,8 @@ start_of (suc k) = start_of k + 1440 * days_in k
 
 -- The month that a minute falls in, month after month: the minute stands `left` after the start of month k, and n months are left of the calendar.
 unfoldable pub month_from : ℕ → ℕ → ℕ → Option ℕ
-month_from zero k left = none
-month_from (suc n) k left = elim (ltb left (1440 * days_in k)) [ true ↦ some k | false ↦ month_from n (suc k) (left - 1440 * days_in k) ]
+month_from zero k left = None
+month_from (suc n) k left = elim (ltb left (1440 * days_in k)) [ true ↦ Some k | false ↦ month_from n (suc k) (left - 1440 * days_in k) ]
 
 unfoldable pub month_of : ℕ → Option ℕ
 month_of minute = month_from all_months 0 minute

@@ -1,6 +1,6 @@
 -- Serves the code: what it keeps of a month, and what it asks of one.
 use Rattle.std.specs.Prelude.{ℕ, ◌-◌, ◌≤◌}
-use Rattle.std.proofs.Math.Option.{Option, none, some}
+use Rattle.std.specs.Prelude.{Option, None, Some}
 use Rattle.months.specs.Months.{month_length, after_january, year_of, month_of_year, days_in, start_of}
 use Rattle.months.specs.declared.Month.{Month}
 use Rattle.months.specs.declared.Found.{Found}
@@ -19,12 +19,12 @@ abbrev pub month_at : ℕ → Month
 month_at k = record { year = year_of k; month = month_of_year k; start = start_of k; days = days_in k }
 
 abbrev pub month_in : Option ℕ → Option Month
-month_in none = none
-month_in (some k) = some (month_at k)
+month_in None = None
+month_in (Some k) = Some (month_at k)
 
 abbrev pub paper_found : Found → Option Month
-paper_found found.Nothing = none
-paper_found (found.In month) = some month
+paper_found found.Nothing = None
+paper_found (found.In month) = Some month
 
 -- a month of the years 1970..2100
 pub record InYear (year month : ℕ) : Type 0 where

@@ -3,10 +3,11 @@ use mathlib.Core.Path.{◌≡◌, refl, sym, ap, subst, ◌∙◌}
 use mathlib.Core.Logic.{◌≢◌}
 use mathlib.Core.Bool.{Bool, false}
 use mathlib.Core.List.{List, [], ◌∷◌, ◌++◌}
-use mathlib.Core.Option.{none, some}
+use Rattle.std.specs.Prelude.{None, Some}
 use Prim.Native.Nat.{ℕ, zero, suc, ◌+◌, ◌*◌, ◌≤◌, ◌<◌}
 use native.Mathlib.Omega.{arith}
-use lib.ListN.{length, get_or, get_elem?, set, length-set}
+use lib.ListN.{length, get_or, set, length-set}
+use Rattle.std.specs.Prelude.{slice_get}
 use lib.Seq.{set-set, get_or-set_same}
 use Rattle.laws.proofs.Tests.{impossible}
 use Rattle.laws.proofs.Lookups.{get_more, get_last}
@@ -38,7 +39,7 @@ module _ (l : List ℕ) (b : Book) (s : Lies l b) (k : ℕ) (h : k < 4) where
       (length-set b.drafts k y ∙ s.four) s.sixteen
       (λ i below. ap (λ (z : List ℕ). get_or z i 0) (draft_byte b s.four k j h g v y bytes))
       (λ i below. sym (held_put b k y there (part_of (suc i))
-      (λ n e. ap (λ (q : List Copy). held_of (get_elem? q n)) (copies ∙ ap copies_of (sym (or_closed_lem b.drafts k))) ∙ ap (held_in b) (sym e))))
+      (λ n e. ap (λ (q : List Copy). held_of (slice_get q n)) (copies ∙ ap copies_of (sym (or_closed_lem b.drafts k))) ∙ ap (held_in b) (sym e))))
 
 pub opened : (l : List ℕ) (b : Book) (d : ℕ) → 1 ≤ d → d ≤ 4 → Lies l b → draft_at b.drafts d ≡ closed
     → Lies (set l (4 + 4 * d) 1) (with_drafts b (put b.drafts d (working [] false)))
@@ -100,15 +101,15 @@ module _ (b : Book) (four : length b.drafts ≡ 4) (k : ℕ) (h : k < 4) where
 
 -- what the blocks hold: those of another part of the book, and those of the draft's copies
 module _ (b : Book) (k : ℕ) (y : Draft) (h : k < length b.drafts) where
-  block_other : (i : ℕ) → ((n : ℕ) → suc i ≡ 9 + 2 * k + n → n < 2 → held_of (get_elem? (copies_of y) n) ≡ held_of (get_elem? (copies_of (get_or b.drafts k closed)) n))
+  block_other : (i : ℕ) → ((n : ℕ) → suc i ≡ 9 + 2 * k + n → n < 2 → held_of (slice_get (copies_of y) n) ≡ held_of (slice_get (copies_of (get_or b.drafts k closed)) n))
       → parts_in (with_drafts b (set b.drafts k y)) i ≡ parts_in b i
   unfolding held_in
   block_other i same =
       held_put b k y h (part_of (suc i))
       (λ n e. let at : (suc i ≡ 9 + 2 * k + n) × (n < 2) = block_of_copy (suc i) k n e in
-      same n at.0 at.1 ∙ ap (λ (q : Draft). held_of (get_elem? (copies_of q) n)) (sym (or_closed_lem b.drafts k)) ∙ ap (held_in b) (sym e))
+      same n at.0 at.1 ∙ ap (λ (q : Draft). held_of (slice_get (copies_of q) n)) (sym (or_closed_lem b.drafts k)) ∙ ap (held_in b) (sym e))
 
-  block_copy : (i n : ℕ) → suc i ≡ 9 + 2 * k + n → k < 4 → n < 2 → parts_in (with_drafts b (set b.drafts k y)) i ≡ held_of (get_elem? (copies_of y) n)
+  block_copy : (i n : ℕ) → suc i ≡ 9 + 2 * k + n → k < 4 → n < 2 → parts_in (with_drafts b (set b.drafts k y)) i ≡ held_of (slice_get (copies_of y) n)
   block_copy i n e g t =
       ap (held_in (with_drafts b (set b.drafts k y))) (ap part_of e ∙ part_copy k n g t) ∙ held_new b k y h n
 
@@ -120,12 +121,12 @@ module _ (l : List ℕ) (b : Book) (s : Lies l b) (k : ℕ) (h : k < 4) where
   b₂ = with_drafts b (set b.drafts k closed)
 
   -- what the blocks hold when the draft's two are cleared
-  both : (i : ℕ) → upd (upd (parts_in b) (8 + 2 * k) none) (9 + 2 * k) none i ≡ parts_in b₂ i
+  both : (i : ℕ) → upd (upd (parts_in b) (8 + 2 * k) None) (9 + 2 * k) None i ≡ parts_in b₂ i
   unfolding b₂
   both i =
-      upd_at (upd (parts_in b) (8 + 2 * k) none) (9 + 2 * k) none i (parts_in b₂ i)
+      upd_at (upd (parts_in b) (8 + 2 * k) None) (9 + 2 * k) None i (parts_in b₂ i)
       (λ e. sym (block_copy b k closed in_drafts i 1 (omega arith) h (omega arith)))
-      (λ d. upd_at (parts_in b) (8 + 2 * k) none i (parts_in b₂ i)
+      (λ d. upd_at (parts_in b) (8 + 2 * k) None i (parts_in b₂ i)
       (λ e. sym (block_copy b k closed in_drafts i 0 (omega arith) h (omega arith)))
       (λ e. sym (block_other b k closed in_drafts i (λ n at small. impossible (no d e n at small)))))
     where
@@ -137,7 +138,7 @@ module _ (l : List ℕ) (b : Book) (s : Lies l b) (k : ℕ) (h : k < 4) where
   l₄ : List ℕ
   l₄ = set (set (set (set l (8 + (k * 4 + 3)) 0) (8 + (k * 4 + 2)) 0) (8 + (k * 4 + 1)) 0) (8 + (k * 4 + 0)) 0
 
-  lies_closed : Lies (put_block (suc (9 + 2 * k)) (holding none) (put_block (suc (8 + 2 * k)) (holding none) l₄)) b₂
+  lies_closed : Lies (put_block (suc (9 + 2 * k)) (holding None) (put_block (suc (8 + 2 * k)) (holding None) l₄)) b₂
   unfolding b₂ l₄
   lies_closed =
       let x : List ℕ = index_bytes b in
@@ -159,7 +160,7 @@ module _ (l : List ℕ) (b : Book) (s : Lies l b) (k : ℕ) (h : k < 4) where
 
 -- the draft's four bytes cleared, from the last one on, and its two blocks
 pub closed_draft : (l : List ℕ) (b : Book) (d : ℕ) → 1 ≤ d → d ≤ 4 → Lies l b
-    → Lies (put_block (8 + 2 * d) (holding none) (put_block (7 + 2 * d) (holding none) (set (set (set (set l (7 + 4 * d) 0) (6 + 4 * d) 0) (5 + 4 * d) 0) (4 + 4 * d) 0)))
+    → Lies (put_block (8 + 2 * d) (holding None) (put_block (7 + 2 * d) (holding None) (set (set (set (set l (7 + 4 * d) 0) (6 + 4 * d) 0) (5 + 4 * d) 0) (4 + 4 * d) 0)))
     (with_drafts b (put b.drafts d closed))
 unfolding l₄ b₂
 closed_draft l b zero h g s = impossible (omega arith)
@@ -180,7 +181,7 @@ take_byte (k ∷ []) stale q h = refl
 take_byte (k ∷ m ∷ ks) stale q h = impossible (omega arith)
 
 module _ (l : List ℕ) (b : Book) (s : Lies l b) (k : ℕ) (n : ℕ) (m : ℕ) (ks : List Copy) (stale : Bool) (c : Content) where
-  module _ (h : k < 4) (two : n < 2) (eight : m < 8) (is : get_or b.drafts k closed ≡ working ks stale) (long : length ks ≡ n) (holds : get_elem? b.segments m ≡ some c) where
+  module _ (h : k < 4) (two : n < 2) (eight : m < 8) (is : get_or b.drafts k closed ≡ working ks stale) (long : length ks ≡ n) (holds : slice_get b.segments m ≡ Some c) where
     q : Copy
     q = record { segment = suc m; held = c }
 
@@ -193,11 +194,11 @@ module _ (l : List ℕ) (b : Book) (s : Lies l b) (k : ℕ) (n : ℕ) (m : ℕ) 
     within : k < length b.drafts
     within = omega (arith, s.four)
 
-    new_block : (i : ℕ) → i ≡ 8 + 2 * k + n → parts_in b₃ i ≡ some c
+    new_block : (i : ℕ) → i ≡ 8 + 2 * k + n → parts_in b₃ i ≡ Some c
     unfolding b₃ y q
     new_block i e =
         block_copy b k y within i n (omega arith) h two
-        ∙ ap held_of (ap (get_elem? (ks ++ (q ∷ []))) (sym long) ∙ get_last ks q)
+        ∙ ap held_of (ap (slice_get (ks ++ (q ∷ []))) (sym long) ∙ get_last ks q)
 
     old_block : (i : ℕ) → i ≢ 8 + 2 * k + n → parts_in b₃ i ≡ parts_in b i
     unfolding b₃ y
@@ -205,7 +206,7 @@ module _ (l : List ℕ) (b : Book) (s : Lies l b) (k : ℕ) (n : ℕ) (m : ℕ) 
         block_other b k y within i
         (λ j at small.
         ap held_of (get_more ks q j (λ e. other (omega (arith, e, long, at))))
-        ∙ ap (λ (x : Draft). held_of (get_elem? (copies_of x) j)) (sym is))
+        ∙ ap (λ (x : Draft). held_of (slice_get (copies_of x) j)) (sym is))
 
     index_taken : set (index_bytes b) (8 + (k * 4 + (1 + n))) (suc m) ≡ index_bytes b₃
     unfolding b₃ y q
@@ -226,7 +227,7 @@ module _ (l : List ℕ) (b : Book) (s : Lies l b) (k : ℕ) (n : ℕ) (m : ℕ) 
 
 -- block s copied to the draft's next one, and its number stored
 pub taken : (l : List ℕ) (b : Book) (d n s : ℕ) → 1 ≤ d → d ≤ 4 → n < 2 → 1 ≤ s → s ≤ 8 → Lies l b
-    → (ks : List Copy) (stale : Bool) (c : Content) → draft_at b.drafts d ≡ working ks stale → length ks ≡ n → at b.segments s ≡ some c
+    → (ks : List Copy) (stale : Bool) (c : Content) → draft_at b.drafts d ≡ working ks stale → length ks ≡ n → at b.segments s ≡ Some c
     → Lies (set (put_block (7 + 2 * d + n) (block_of s l) l) (5 + 4 * d + n) s) (with_drafts b (put b.drafts d (working (ks ++ (record { segment = s; held = c } ∷ [])) stale)))
 unfolding b₃ y q
 taken l b zero n s h g two h₁ h₈ lies ks stale c is long holds = impossible (omega arith)

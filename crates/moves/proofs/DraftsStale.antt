@@ -4,7 +4,8 @@ use mathlib.Core.Bool.{Bool, true, false, cond, ◌||◌, or-false, or-true}
 use mathlib.Core.List.{List, [], ◌∷◌, map}
 use Prim.Native.Nat.{ℕ, suc, ◌+◌, ◌*◌, ◌≤◌, ◌<◌}
 use native.Mathlib.Omega.{arith}
-use lib.ListN.{length, get_or, get_elem?, set}
+use lib.ListN.{length, get_or, set}
+use Rattle.std.specs.Prelude.{slice_get}
 use lib.Seq.{set-get_or}
 use lib.Dec.{eqb}
 use borrow.Author.Tests.{ne_eqb}
@@ -26,7 +27,7 @@ use Rattle.moves.proofs.StepsLies.{lies_stands}
 use Rattle.moves.proofs.Drafts.{lies_byte}
 
 -- ---- the test
-has_two : (s : ℕ) (ks : List Copy) → 1 ≤ s → length ks ≤ 2 → meets s (segment_of (get_elem? ks 0)) (segment_of (get_elem? ks 1)) ≡ has s ks
+has_two : (s : ℕ) (ks : List Copy) → 1 ≤ s → length ks ≤ 2 → meets s (segment_of (slice_get ks 0)) (segment_of (slice_get ks 1)) ≡ has s ks
 unfolding has meets
 has_two s [] h g = rw (ne_eqb s 0 (λ e. omega arith)) refl
 has_two s (k ∷ []) h g = rw (ne_eqb s 0 (λ e. omega arith)) refl
@@ -34,7 +35,7 @@ has_two s (k ∷ m ∷ []) h g = ap (λ (t : Bool). eqb s k.segment || t) (sym (
 has_two s (k ∷ m ∷ q ∷ ks) h g = impossible (omega arith)
 
 meets_touches : (k : Copy) (ks : List Copy) → 1 ≤ k.segment → length ks ≤ 2
-    → meets k.segment (segment_of (get_elem? ks 0)) (segment_of (get_elem? ks 1)) ≡ touches (k ∷ []) ks
+    → meets k.segment (segment_of (slice_get ks 0)) (segment_of (slice_get ks 1)) ≡ touches (k ∷ []) ks
 unfolding touches
 meets_touches k ks one two = has_two k.segment ks one two ∙ sym (or-false (has k.segment ks))
 

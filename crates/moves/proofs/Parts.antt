@@ -1,9 +1,10 @@
 -- The parts that blocks hold, and what they hold after a change of one draft. Assumes nothing.
 use mathlib.Core.Path.{◌≡◌, refl, ap, ◌∙◌}
-use mathlib.Core.Option.{Option}
+use Rattle.std.specs.Prelude.{Option}
 use Prim.Native.Nat.{ℕ, ◌+◌, ◌*◌, ◌-◌, ◌/◌, ◌%◌, ◌≤◌, ◌<◌}
 use native.Mathlib.Omega.{arith}
-use lib.ListN.{length, get_elem?, set}
+use lib.ListN.{length, set}
+use Rattle.std.specs.Prelude.{slice_get}
 use lib.Dec.{eqb, ltb}
 use borrow.Author.Tests.{eqb-true, eqb-false, ltb-false}
 use Rattle.laws.proofs.Tests.{by, apart}
@@ -40,7 +41,7 @@ block_of_copy i k n e =
 
 module _ (b : Book) (k : ℕ) (y : Draft) (h : k < length b.drafts) where
   -- what a part holds after a change of one draft
-  pub held_put : (p : Part) → ((n : ℕ) → p ≡ copy k n → held_of (get_elem? (copies_of y) n) ≡ held_in b p)
+  pub held_put : (p : Part) → ((n : ℕ) → p ≡ copy k n → held_of (slice_get (copies_of y) n) ≡ held_in b p)
       → held_in (with_drafts b (set b.drafts k y)) p ≡ held_in b p
   unfolding held_in
   held_put (segment n) same = refl
@@ -48,12 +49,12 @@ module _ (b : Book) (k : ℕ) (y : Draft) (h : k < length b.drafts) where
   held_put (copy e n) same =
       by (eqb e k)
       (λ t. let q : e ≡ k = eqb-true e k t in
-      ap (λ (o : Option Draft). held_of (get_elem? (copies_of (or_closed o)) n))
-      (ap (λ (i : ℕ). get_elem? (set b.drafts k y) i) q ∙ get_same b.drafts k y h)
+      ap (λ (o : Option Draft). held_of (slice_get (copies_of (or_closed o)) n))
+      (ap (λ (i : ℕ). slice_get (set b.drafts k y) i) q ∙ get_same b.drafts k y h)
       ∙ same n (ap (λ (i : ℕ). copy i n) q))
-      (λ t. ap (λ (o : Option Draft). held_of (get_elem? (copies_of (or_closed o)) n)) (get_other b.drafts k e y (eqb-false e k t)))
+      (λ t. ap (λ (o : Option Draft). held_of (slice_get (copies_of (or_closed o)) n)) (get_other b.drafts k e y (eqb-false e k t)))
 
   -- of that draft's copies
-  pub held_new : (n : ℕ) → held_in (with_drafts b (set b.drafts k y)) (copy k n) ≡ held_of (get_elem? (copies_of y) n)
+  pub held_new : (n : ℕ) → held_in (with_drafts b (set b.drafts k y)) (copy k n) ≡ held_of (slice_get (copies_of y) n)
   unfolding held_in
-  held_new n = ap (λ (o : Option Draft). held_of (get_elem? (copies_of (or_closed o)) n)) (get_same b.drafts k y h)
+  held_new n = ap (λ (o : Option Draft). held_of (slice_get (copies_of (or_closed o)) n)) (get_same b.drafts k y h)

@@ -3,7 +3,7 @@ use mathlib.Core.Path.{◌≡◌, refl, sym, ap, ◌∙◌, subst}
 use mathlib.Core.Logic.{◌≢◌}
 use mathlib.Core.Bool.{Bool, cond}
 use mathlib.Core.List.{List, [], ◌∷◌, ◌++◌, map}
-use mathlib.Core.Option.{Option, none}
+use Rattle.std.specs.Prelude.{Option, None}
 use Prim.Native.Nat.{ℕ, ◌+◌, ◌-◌, ◌≤◌, ◌<◌}
 use native.Mathlib.Omega.{arith}
 use lib.ListN.{length, drop, get_or, set, length-append, length-drop, length-set}
@@ -103,7 +103,7 @@ moving_on l m m1 n s h e = subst (λ (z : List ℕ). Moving l z (n + 1)) (sym e)
 
 -- the places of the last step are cleared
 abbrev pub forgotten : List ℕ → List ℕ
-forgotten m = put_block 48 (holding none) (put_block 47 (holding none) (set (set (set m 24 15) 62 0) 63 0))
+forgotten m = put_block 48 (holding None) (put_block 47 (holding None) (set (set (set m 24 15) 62 0) 63 0))
 
 pub forgot : (l m : List ℕ) (b : Book) → Moving l m 30 → Lies l b → length b.history.kept ≡ 16
     → Lies (forgotten m) (with_kept b (drop 1 b.history.kept))
@@ -115,13 +115,13 @@ forgot l m b moving lies all =
     let h : ℕ → Option Content = moved (parts_in b) 16 30 in
     let w1 : ℕ → ℕ = upd w 24 15 in
     let w2 : ℕ → ℕ = upd w1 62 0 in
-    let h1 : ℕ → Option Content = upd h 46 none in
+    let h1 : ℕ → Option Content = upd h 46 None in
     let s0 : Stands m w h = moving.goes (bytes_in b) (parts_in b) (lies_stands l b lies) in
     let s1 : Stands (set m 24 15) w1 h = stands_set s0 24 15 (omega arith) in
     let s2 : Stands (set (set m 24 15) 62 0) w2 h = stands_set s1 62 0 (omega arith) in
     let s3 : Stands (set (set (set m 24 15) 62 0) 63 0) (upd w2 63 0) h = stands_set s2 63 0 (omega arith) in
-    let s4 : Stands (put_block 47 (holding none) (set (set (set m 24 15) 62 0) 63 0)) (upd w2 63 0) h1 = stands_clear s3 47 46 refl (omega arith) in
-    let s5 : Stands (forgotten m) (upd w2 63 0) (upd h1 47 none) = stands_clear s4 48 47 refl (omega arith) in
+    let s4 : Stands (put_block 47 (holding None) (set (set (set m 24 15) 62 0) 63 0)) (upd w2 63 0) h1 = stands_clear s3 47 46 refl (omega arith) in
+    let s5 : Stands (forgotten m) (upd w2 63 0) (upd h1 47 None) = stands_clear s4 48 47 refl (omega arith) in
     steps_lie b lies.four new s5 (omega arith)
     (upd_at w2 63 0 24 (length new) (λ e. impossible (omega arith)) (λ _. upd_at w1 62 0 24 (length new) (λ e. impossible (omega arith))
     (λ _. upd_at w 24 15 24 (length new) (λ _. sym size) (λ d. impossible (d refl)))))
@@ -140,11 +140,11 @@ forgot l m b moving lies all =
     ∙ ap segment_of (slot_drop old t))
     (λ p. moved_high (bytes_in b) 32 30 (32 + t) (omega arith) ∙ index_step b lies.four t
     ∙ ap segment_of (slot_none old t (omega arith) ∙ sym (slot_none new t (omega arith)))))))
-    (λ k g. upd_at h1 47 none k (parts_in b k) (λ e. impossible (omega arith)) (λ _. upd_at h 46 none k (parts_in b k) (λ e. impossible (omega arith))
+    (λ k g. upd_at h1 47 None k (parts_in b k) (λ e. impossible (omega arith)) (λ _. upd_at h 46 None k (parts_in b k) (λ e. impossible (omega arith))
     (λ _. moved_low (parts_in b) 16 30 k g)))
-    (λ t g. upd_at h1 47 none (16 + t) (held_of (slot_of new t))
+    (λ t g. upd_at h1 47 None (16 + t) (held_of (slot_of new t))
     (λ e. sym (ap held_of (slot_none new t (omega arith))))
-    (λ d1. upd_at h 46 none (16 + t) (held_of (slot_of new t))
+    (λ d1. upd_at h 46 None (16 + t) (held_of (slot_of new t))
     (λ e. sym (ap held_of (slot_none new t (omega arith))))
     (λ d2.
     let e : 2 + (16 + t) ≡ 16 + (2 + t) = omega arith in
@@ -152,12 +152,12 @@ forgot l m b moving lies all =
 
 -- ---- as the code leaves it
 module _ (l m m1 m2 : List ℕ) (k : ℕ) (moving : Moving l m k) (done : 30 ≤ k)
-    (e1 : m1 ≡ put_block 47 (holding none) (set (set (set m 24 15) 62 0) 63 0)) (e2 : m2 ≡ put_block 48 (holding none) m1) where
+    (e1 : m1 ≡ put_block 47 (holding None) (set (set (set m 24 15) 62 0) 63 0)) (e2 : m2 ≡ put_block 48 (holding None) m1) where
   pub forget_done : (b : Book) → Lies l b → length b.history.kept ≡ 16 → Lies m2 (with_kept b (drop 1 b.history.kept))
   forget_done b lies all =
       let most = moving.most in
       let e : k ≡ 30 = omega arith in
-      subst (λ (q : List ℕ). Lies q (with_kept b (drop 1 b.history.kept))) (sym (e2 ∙ ap (put_block 48 (holding none)) e1))
+      subst (λ (q : List ℕ). Lies q (with_kept b (drop 1 b.history.kept))) (sym (e2 ∙ ap (put_block 48 (holding None)) e1))
       (forgot l m b (subst (Moving l m) e moving) lies all)
 
   pub forget_count : get_or m2 24 0 ≡ 15
@@ -165,11 +165,11 @@ module _ (l m m1 m2 : List ℕ) (k : ℕ) (moving : Moving l m k) (done : 30 ≤
       let long = moving.long in
       let m0 : List ℕ = set (set (set m 24 15) 62 0) 63 0 in
       let long0 : length m0 ≡ book_length = simp length-set long in
-      let long1 : length m1 ≡ book_length = ap (length {A = ℕ}) e1 ∙ put_length 47 m0 (holding none) (omega arith) unused_length ∙ long0 in
+      let long1 : length m1 ≡ book_length = ap (length {A = ℕ}) e1 ∙ put_length 47 m0 (holding None) (omega arith) unused_length ∙ long0 in
       let d1 : ◌≢◌ {A = ℕ} 24 63 = λ e. omega arith in
       let d2 : ◌≢◌ {A = ℕ} 24 62 = λ e. omega arith in
-      ap (λ (z : List ℕ). get_or z 24 0) e2 ∙ put_byte m1 48 (holding none) 24 long1 (omega arith) (omega arith) unused_length (omega arith)
-      ∙ ap (λ (z : List ℕ). get_or z 24 0) e1 ∙ put_byte m0 47 (holding none) 24 long0 (omega arith) (omega arith) unused_length (omega arith)
+      ap (λ (z : List ℕ). get_or z 24 0) e2 ∙ put_byte m1 48 (holding None) 24 long1 (omega arith) (omega arith) unused_length (omega arith)
+      ∙ ap (λ (z : List ℕ). get_or z 24 0) e1 ∙ put_byte m0 47 (holding None) 24 long0 (omega arith) (omega arith) unused_length (omega arith)
       ∙ get_or-set_other (set (set m 24 15) 62 0) 63 24 0 0 d1 ∙ get_or-set_other (set m 24 15) 62 24 0 0 d2 ∙ get_or-set_same m 24 15 0 (omega arith)
 
 -- ---- room for a step

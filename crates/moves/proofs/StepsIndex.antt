@@ -1,10 +1,11 @@
 -- The bytes of block 0, and what the steps put there. Assumes nothing.
 use mathlib.Core.Path.{◌≡◌, refl, sym, ap, ap₂, ◌∙◌}
 use mathlib.Core.List.{List, [], ◌∷◌, ◌++◌, append_assoc}
-use mathlib.Core.Option.{Option, none}
+use Rattle.std.specs.Prelude.{Option, None}
 use Prim.Native.Nat.{ℕ, zero, suc, ◌+◌, ◌*◌, ◌-◌, ◌/◌, ◌%◌, ◌≤◌, ◌<◌}
 use native.Mathlib.Omega.{arith}
-use lib.ListN.{length, drop, get_or, get_elem?, replicate, length-append, length-replicate, get_or-replicate, get_or-append, get_or-eq_default}
+use lib.ListN.{length, drop, get_or, replicate, length-append, length-replicate, get_or-replicate, get_or-append, get_or-eq_default}
+use Rattle.std.specs.Prelude.{slice_get}
 use lib.Seq.{get_or-append-add}
 use Rattle.laws.proofs.Tests.{by_order, impossible}
 use Rattle.laws.proofs.Lookups.{get_none}
@@ -31,12 +32,12 @@ zero_at m i = by_order i m (λ h. get_or-replicate m i 0 0 h) (λ h. get_or-eq_d
 
 -- the copy that place t of the steps has: two places a step
 unfoldable pub slot_of : List (List Copy) → ℕ → Option Copy
-slot_of steps t = get_elem? (or_none (get_elem? steps (t / 2))) (t % 2)
+slot_of steps t = slice_get (or_none (slice_get steps (t / 2))) (t % 2)
 
 -- past the last step
-pub slot_none : (steps : List (List Copy)) (t : ℕ) → length steps ≤ t / 2 → slot_of steps t ≡ none
+pub slot_none : (steps : List (List Copy)) (t : ℕ) → length steps ≤ t / 2 → slot_of steps t ≡ None
 unfolding slot_of
-slot_none steps t h = ap (λ (o : Option (List Copy)). get_elem? (or_none o) (t % 2)) (get_none steps (t / 2) h)
+slot_none steps t h = ap (λ (o : Option (List Copy)). slice_get (or_none o) (t % 2)) (get_none steps (t / 2) h)
 
 -- without the first step
 pub slot_drop : (steps : List (List Copy)) (t : ℕ) → slot_of steps (2 + t) ≡ slot_of (drop 1 steps) t
@@ -45,10 +46,10 @@ slot_drop [] t = refl
 slot_drop (ks ∷ steps) t =
     let p : (2 + t) / 2 ≡ suc (t / 2) = omega arith in
     let q : (2 + t) % 2 ≡ t % 2 = omega arith in
-    ap₂ (λ (s i : ℕ). get_elem? (or_none (get_elem? (ks ∷ steps) s)) i) p q
+    ap₂ (λ (s i : ℕ). slice_get (or_none (slice_get (ks ∷ steps) s)) i) p q
 
 step_byte : (steps : List (List Copy)) (m s j : ℕ) → j < 2
-    → get_or (flat step_bytes steps ++ replicate m 0) (s * 2 + j) 0 ≡ segment_of (get_elem? (or_none (get_elem? steps s)) j)
+    → get_or (flat step_bytes steps ++ replicate m 0) (s * 2 + j) 0 ≡ segment_of (slice_get (or_none (slice_get steps s)) j)
 unfolding flat
 step_byte [] m s j h = zero_at m (s * 2 + j)
 step_byte (ks ∷ steps) m zero zero h = refl

@@ -2,10 +2,11 @@
 use mathlib.Core.Path.{◌≡◌, refl, sym, ap, ap₂, ◌∙◌, subst}
 use mathlib.Core.Logic.{◌≢◌}
 use mathlib.Core.List.{List, ◌∷◌, ◌++◌}
-use mathlib.Core.Option.{Option, some}
+use Rattle.std.specs.Prelude.{Option, Some}
 use Prim.Native.Nat.{ℕ, zero, suc, ◌+◌, ◌*◌, ◌-◌, ◌/◌, ◌%◌, ◌≤◌, ◌<◌}
 use native.Mathlib.Omega.{arith}
-use lib.ListN.{length, get_or, get_elem?, set, replicate, length-set}
+use lib.ListN.{length, get_or, set, replicate, length-set}
+use Rattle.std.specs.Prelude.{slice_get}
 use lib.Dec.{eqb}
 use borrow.Author.Tests.{eqb-true, eqb-false}
 use Rattle.laws.proofs.Tests.{by, by_order, impossible}
@@ -42,7 +43,7 @@ parts_in b k = held_in b (part_of (suc k))
 abbrev pub bytes_in : Book → ℕ → ℕ
 bytes_in b i = get_or (index_bytes b) i 0
 
-pub parts_segment : (b : Book) (k : ℕ) → k < 8 → parts_in b k ≡ get_elem? b.segments k
+pub parts_segment : (b : Book) (k : ℕ) → k < 8 → parts_in b k ≡ slice_get b.segments k
 unfolding held_in
 parts_segment b k h = ap (held_in b) (part_segment k h)
 
@@ -122,27 +123,27 @@ module _ (b : Book) (four : length b.drafts ≡ 4) (steps : List (List Copy)) wh
       ap h e ∙ past (k - 16) (omega arith) ∙ sym (parts_past (with_kept b steps) (k - 16)) ∙ sym (ap (parts_in (with_kept b steps)) e)))
 
 -- ---- one step changed: the place of step r, and how many there are
-slot_other : (old steps : List (List Copy)) (r : ℕ) → ((s : ℕ) → s ≢ r → get_elem? steps s ≡ get_elem? old s)
+slot_other : (old steps : List (List Copy)) (r : ℕ) → ((s : ℕ) → s ≢ r → slice_get steps s ≡ slice_get old s)
     → (t : ℕ) → t ≢ 2 * r → t ≢ 2 * r + 1 → slot_of old t ≡ slot_of steps t
 unfolding slot_of
 slot_other old steps r same t p q =
     let d : t / 2 ≢ r = λ e. omega arith in
-    ap (λ (o : Option (List Copy)). get_elem? (or_none o) (t % 2)) (sym (same (t / 2) d))
+    ap (λ (o : Option (List Copy)). slice_get (or_none o) (t % 2)) (sym (same (t / 2) d))
 
-slot_here : (steps : List (List Copy)) (r j t : ℕ) → j < 2 → t ≡ 2 * r + j → get_elem? (or_none (get_elem? steps r)) j ≡ slot_of steps t
+slot_here : (steps : List (List Copy)) (r j t : ℕ) → j < 2 → t ≡ 2 * r + j → slice_get (or_none (slice_get steps r)) j ≡ slot_of steps t
 unfolding slot_of
 slot_here steps r j t h e =
     let p : r ≡ t / 2 = omega arith in
     let q : j ≡ t % 2 = omega arith in
-    ap₂ (λ (s i : ℕ). get_elem? (or_none (get_elem? steps s)) i) p q
+    ap₂ (λ (s i : ℕ). slice_get (or_none (slice_get steps s)) i) p q
 
 module _ (b : Book) (four : length b.drafts ≡ 4) (steps : List (List Copy)) (r : ℕ) (room : r < 16)
-    (same : (s : ℕ) → s ≢ r → get_elem? steps s ≡ get_elem? b.history.kept s) where
+    (same : (s : ℕ) → s ≢ r → slice_get steps s ≡ slice_get b.history.kept s) where
   pub one_step : {l : List ℕ} (n x y : ℕ) (p q : Option Content)
       → Stands l (upd (upd (upd (bytes_in b) 24 n) (32 + 2 * r) x) (33 + 2 * r) y) (upd (upd (parts_in b) (16 + 2 * r) p) (17 + 2 * r) q)
       → n ≡ length steps → length steps ≤ 16
-      → x ≡ segment_of (get_elem? (or_none (get_elem? steps r)) 0) → y ≡ segment_of (get_elem? (or_none (get_elem? steps r)) 1)
-      → p ≡ held_of (get_elem? (or_none (get_elem? steps r)) 0) → q ≡ held_of (get_elem? (or_none (get_elem? steps r)) 1)
+      → x ≡ segment_of (slice_get (or_none (slice_get steps r)) 0) → y ≡ segment_of (slice_get (or_none (slice_get steps r)) 1)
+      → p ≡ held_of (slice_get (or_none (slice_get steps r)) 0) → q ≡ held_of (slice_get (or_none (slice_get steps r)) 1)
       → Lies l (with_kept b steps)
   one_step n x y p q s count sixteen ex ey ep eq =
       let w : ℕ → ℕ = bytes_in b in
@@ -181,7 +182,7 @@ segments_index b j c =
     ap (λ (n : ℕ). (bytes32 b.issue ++ (n ∷ replicate 3 0)) ++ (flat draft_bytes b.drafts ++ back b)) (sym (length-set b.segments j c))
 
 pub segment_put : (l : List ℕ) (b : Book) (from s : ℕ) (c : Content) → 1 ≤ from → from < 49 → 1 ≤ s → s ≤ 8
-    → Lies l b → held_in b (part_of from) ≡ some c → s ≤ length b.segments → Lies (put_block s (block_of from l) l) (with_segments b (put b.segments s c))
+    → Lies l b → held_in b (part_of from) ≡ Some c → s ≤ length b.segments → Lies (put_block s (block_of from l) l) (with_segments b (put b.segments s c))
 segment_put l b zero s c low high one eight lies held there = impossible (omega arith)
 segment_put l b (suc i) zero c low high one eight lies held there = impossible (omega arith)
 segment_put l b (suc i) (suc j) c low high one eight lies held there =
@@ -198,6 +199,6 @@ segment_put l b (suc i) (suc j) c low high one eight lies held there =
 
 -- as the code leaves it
 pub put_segment_done : (l m : List ℕ) (from s : ℕ) → m ≡ put_block s (block_of from l) l → 9 ≤ from → from < 49 → 1 ≤ s → s ≤ 8
-    → (b : Book) → Lies l b → (c : Content) → held_in b (part_of from) ≡ some c → s ≤ length b.segments → Lies m (with_segments b (put b.segments s c))
+    → (b : Book) → Lies l b → (c : Content) → held_in b (part_of from) ≡ Some c → s ≤ length b.segments → Lies m (with_segments b (put b.segments s c))
 put_segment_done l m from s e low high one eight b lies c held there =
     subst (λ (z : List ℕ). Lies z (with_segments b (put b.segments s c))) (sym e) (segment_put l b from s c (omega arith) high one eight lies held there)

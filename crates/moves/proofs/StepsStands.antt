@@ -3,7 +3,7 @@ use mathlib.Core.Path.{◌≡◌, refl, sym, ap, ◌∙◌, subst}
 use mathlib.Core.Logic.{◌≢◌}
 use mathlib.Core.Bool.{Bool, cond}
 use mathlib.Core.List.{List}
-use mathlib.Core.Option.{Option, none}
+use Rattle.std.specs.Prelude.{Option, None}
 use Prim.Native.Nat.{ℕ, suc, ◌*◌, ◌≤◌, ◌<◌}
 use native.Mathlib.Nat.{suc-mul}
 use native.Mathlib.Omega.{arith}
@@ -112,8 +112,8 @@ module _ {l : List ℕ} {w : ℕ → ℕ} {h : ℕ → Option Content} (s : Stan
   stands_block k j x o at b e is = subst (λ (z : ℕ). Stands (put_block z x l) w (upd h j o)) (sym at) (stands_put j x o b e is)
 
   -- a block cleared
-  pub stands_clear : (k j : ℕ) → k ≡ suc j → j < 48 → Stands (put_block k (holding none) l) w (upd h j none)
-  stands_clear k j at b = stands_block k j (holding none) none at b unused_length refl
+  pub stands_clear : (k j : ℕ) → k ≡ suc j → j < 48 → Stands (put_block k (holding None) l) w (upd h j None)
+  stands_clear k j at b = stands_block k j (holding None) None at b unused_length refl
 
   -- a block copied over another
   pub stands_copy : (i j : ℕ) → i < 48 → j < 48 → Stands (put_block (suc j) (block_of (suc i) l) l) w (upd h j (h i))

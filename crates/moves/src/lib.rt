@@ -3,7 +3,7 @@
 #![tactic(auto)]
 
 ghost use Rattle.std.specs.Prelude.{◌≡◌, Bool, false, List, [], ◌∷◌, ◌++◌, map, ℕ, ◌+◌, ◌*◌, ◌≤◌, ◌<◌, length, get_or, drop};
-ghost use Rattle.std.proofs.Math.Option.{some};
+ghost use Rattle.std.specs.Prelude.{Some};
 ghost use Rattle.laws.specs.Lists.{All};
 ghost use Rattle.codes.specs.Block.{Content};
 ghost use Rattle.blocks.specs.Block.{book_length};
@@ -55,7 +55,7 @@ pub fn close_draft(book: &mut [u8], d: usize)
 // Copies segment s into draft d, which has taken n segments.
 pub fn take_copy(book: &mut [u8], d: usize, n: usize, s: usize)
     requires { (length book.old ≡ book_length) × (1 ≤ d) × (d ≤ 4) × (n < 2) × (1 ≤ s) × (s ≤ 8) }
-    ensures { (b : Book) → Lies book.old b → (ks : List Copy) (stale : Bool) (c : Content) → draft_at b.drafts d ≡ working ks stale → length ks ≡ n → at b.segments s ≡ some c → Lies book.new (with_drafts b (put b.drafts d (working (ks ++ (record { segment = s; held = c } ∷ [])) stale))) }
+    ensures { (b : Book) → Lies book.old b → (ks : List Copy) (stale : Bool) (c : Content) → draft_at b.drafts d ≡ working ks stale → length ks ≡ n → at b.segments s ≡ Some c → Lies book.new (with_drafts b (put b.drafts d (working (ks ++ (record { segment = s; held = c } ∷ [])) stale))) }
 {
     blocks::copy_block(book, s, 7 + 2 * d + n);
     let at = 5 + 4 * d + n;
@@ -107,7 +107,7 @@ pub fn mark_stale(book: &mut [u8], segments: Changed)
 // Makes segment s hold what block `from` of a draft or a step holds.
 pub fn put_segment(book: &mut [u8], from: usize, s: usize)
     requires { (length book.old ≡ book_length) × (9 ≤ from) × (from < 49) × (1 ≤ s) × (s ≤ 8) }
-    ensures { (b : Book) → Lies book.old b → (c : Content) → held_in b (part_of from) ≡ some c → s ≤ length b.segments → Lies book.new (with_segments b (put b.segments s c)) }
+    ensures { (b : Book) → Lies book.old b → (c : Content) → held_in b (part_of from) ≡ Some c → s ≤ length b.segments → Lies book.new (with_segments b (put b.segments s c)) }
 {
     blocks::copy_block(book, from, s);
 }

@@ -5,7 +5,7 @@ use native.Mathlib.Omega.{arith}
 use mathlib.Core.Path.{◌≡◌, refl, sym, ap, ap₂, ◌∙◌, subst}
 use mathlib.Core.Bool.{true, false, ◌&&◌}
 use mathlib.Core.List.{List, [], ◌∷◌}
-use mathlib.Core.Option.{Option, none, some}
+use Rattle.std.specs.Prelude.{Option, None, Some}
 use lib.ListN.{length}
 use lib.Dec.{leb, ltb, eqb}
 use borrow.Author.Tests.{leb-true, ltb-true, ne_eqb}
@@ -122,13 +122,13 @@ view_back_lem v hs hl =
 
 -- ---- a BBB: three bytes, none of them 0
 pub data Marked : Option (List ℕ) → Type 0 where
-  unmarked : Marked none
-  marked : {bbb : List ℕ} → All Byte bbb → length bbb ≡ bbb_bytes → Marked (some bbb)
+  unmarked : Marked None
+  marked : {bbb : List ℕ} → All Byte bbb → length bbb ≡ bbb_bytes → Marked (Some bbb)
 
 pub bbb_low : (b : Option (List ℕ)) → Marked b → bbb_bits b < 16777216
 unfolding bbb_bits
-bbb_low none unmarked = omega arith
-bbb_low (some bbb) (marked a n) = spelled_low bbb (omega arith)
+bbb_low None unmarked = omega arith
+bbb_low (Some bbb) (marked a n) = spelled_low bbb (omega arith)
 
 spelled_more : (bs : List ℕ) → All Byte bs → 1 ≤ length bs → 1 ≤ spelled bs
 unfolding spelled
@@ -137,8 +137,8 @@ spelled_more (b ∷ bs) (all_cons f a) h = omega (arith, mod-eq_of_lt f.below, f
 
 pub bbb_back_lem : (b : Option (List ℕ)) → Marked b → bbb_back (bbb_bits b) ≡ b
 unfolding bbb_bits bbb_back
-bbb_back_lem none unmarked = refl
-bbb_back_lem (some bbb) (marked a n) =
+bbb_back_lem None unmarked = refl
+bbb_back_lem (Some bbb) (marked a n) =
     let z : eqb (spelled bbb) 0 ≡ false = ne_eqb (spelled bbb) 0 (omega (arith, spelled_more bbb a (omega arith))) in
     rw (z, unspelled_spelled bbb_bytes bbb a (omega arith))
 
@@ -204,16 +204,16 @@ parted a b c d ha hb hc =
 
 -- a storm's basin is one of the five, its number has 8 bits, and its year 16
 pub data Small : Option StormName → Type 0 where
-  small_none : Small none
-  small_some : {s : StormName} → Known s.basin → s.number < 256 → s.year < year_end → Small (some s)
+  small_none : Small None
+  small_some : {s : StormName} → Known s.basin → s.number < 256 → s.year < year_end → Small (Some s)
 
 pub storm_low : (s : Option StormName) → Small s → storm_bits s < rest_end
 unfolding storm_bits
-storm_low none small_none = omega arith
-storm_low (some s) (small_some k hn hy) = omega (arith, (known_basin s.basin k).to, leb-true (class_number s.class) 4 (class_low s.class))
+storm_low None small_none = omega arith
+storm_low (Some s) (small_some k hn hy) = omega (arith, (known_basin s.basin k).to, leb-true (class_number s.class) 4 (class_low s.class))
 
 name_back : (basin : List ℕ) (class : ClassName) (number year : ℕ) → Known basin → number < 256 → year < year_end
-    → storm_back (basin_number basin + 256 * class_number class + 65536 * number + 16777216 * year) ≡ some (record { basin = basin; class = class; number = number; year = year })
+    → storm_back (basin_number basin + 256 * class_number class + 65536 * number + 16777216 * year) ≡ Some (record { basin = basin; class = class; number = number; year = year })
 unfolding storm_back
 name_back basin class number year k hn hy =
     let b = basin_number basin in
@@ -226,13 +226,13 @@ name_back basin class number year k hn hy =
     let z : eqb (b + 256 * c + 65536 * number + 16777216 * year) 0 ≡ false = ne_eqb (b + 256 * c + 65536 * number + 16777216 * year) 0 (omega arith) in
     rw (z, p.first, p.second, p.third, p.rest, known.back, class_back_lem class)
 
-none_back : storm_back 0 ≡ none
+none_back : storm_back 0 ≡ None
 unfolding storm_back
 none_back = refl
 
 pub storm_back_lem : (s : Option StormName) → Small s → storm_back (storm_bits s) ≡ s
 unfolding storm_bits
-storm_back_lem none small_none = none_back
-storm_back_lem (some s) (small_some k hn hy) =
+storm_back_lem None small_none = none_back
+storm_back_lem (Some s) (small_some k hn hy) =
     ap₂ (λ (n y : ℕ). storm_back (basin_number s.basin + 256 * class_number s.class + 65536 * n + 16777216 * y)) (mod-eq_of_lt hn) (mod-eq_of_lt hy)
     ∙ name_back s.basin s.class s.number s.year k hn hy

@@ -1,6 +1,6 @@
 -- An answer as one number of 64 bits, and the way back. The number's low byte is 0, and the rest is the value; or it is the refusal's number, and the rest is the place.
 use Rattle.std.specs.Prelude.{ℕ, zero, suc, ◌+◌, ◌-◌, ◌*◌, ◌/◌, ◌%◌, cond, List, [], ◌∷◌, eqb}
-use Rattle.std.proofs.Math.Option.{Option, none, some}
+use Rattle.std.specs.Prelude.{Option, None, Some}
 use Prim.Native.String.{String}
 use Rattle.refusal.specs.Answer.{Answer, ok, no}
 use Rattle.lines.specs.Bytes.{bytes, word, exactly}
@@ -118,11 +118,11 @@ abbrev pub bbb_bytes : ℕ
 bbb_bytes = 3
 
 unfoldable pub bbb_bits : Option (List ℕ) → ℕ
-bbb_bits none = 0
-bbb_bits (some bbb) = spelled bbb
+bbb_bits None = 0
+bbb_bits (Some bbb) = spelled bbb
 
 unfoldable pub bbb_back : ℕ → Option (List ℕ)
-bbb_back r = cond (eqb r 0) none (some (unspelled bbb_bytes r))
+bbb_back r = cond (eqb r 0) None (Some (unspelled bbb_bytes r))
 
 -- ---- a storm: 0 for none, else a byte each for its basin (1..5), class (1..4) and number, and above them its year
 -- a word's number in a list, from n on; 0 where it is not there
@@ -157,10 +157,10 @@ abbrev pub name_bits : StormName → ℕ
 name_bits s = basin_number s.basin + 256 * class_number s.class + 65_536 * (s.number % 256) + 16_777_216 * (s.year % year_end)
 
 unfoldable pub storm_bits : Option StormName → ℕ
-storm_bits none = 0
-storm_bits (some s) = name_bits s
+storm_bits None = 0
+storm_bits (Some s) = name_bits s
 
 unfoldable pub storm_back : ℕ → Option StormName
 storm_back r =
-    cond (eqb r 0) none
-    (some (record { basin = basin_back (r % 256); class = class_back (r / 256 % 256); number = r / 65_536 % 256; year = r / 16_777_216 }))
+    cond (eqb r 0) None
+    (Some (record { basin = basin_back (r % 256); class = class_back (r / 256 % 256); number = r / 65_536 % 256; year = r / 16_777_216 }))

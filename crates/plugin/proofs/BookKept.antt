@@ -4,8 +4,9 @@ use native.Mathlib.Omega.{arith}
 use mathlib.Core.Path.{◌≡◌, refl}
 use mathlib.Core.Bool.{Bool, true, false, not}
 use mathlib.Core.List.{List, [], ◌∷◌}
-use mathlib.Core.Option.{Option, none, some}
-use lib.ListN.{length, get_elem?, length-map}
+use Rattle.std.specs.Prelude.{Option, None, Some}
+use lib.ListN.{length, length-map}
+use Rattle.std.specs.Prelude.{slice_get}
 use lib.Dec.{ltb, eqb}
 use Rattle.laws.proofs.Tests.{apart}
 use Rattle.laws.specs.Lists.{All, all_nil, all_cons}
@@ -46,7 +47,7 @@ settle_kept value x _ (told_no r) = refusal_kept value r
 settle_kept value x _ (told_ok z q) = kept_ok z.0 q.low q.same
 
 -- ---- an edit of a copy
-place_end : {b : ℕ} {ps : List ℕ} (i p : ℕ) → Ascending b ps → get_elem? ps i ≡ some p → p < places_end
+place_end : {b : ℕ} {ps : List ℕ} (i p : ℕ) → Ascending b ps → slice_get ps i ≡ Some p → p < places_end
 place_end i p nil e = apart cc
 place_end zero p (cons {p = q} h k a) e = let same : q ≡ p = cc in omega arith
 place_end (suc i) p (cons h k a) e = place_end i p a e
@@ -56,9 +57,9 @@ number_back : (n : ℕ) → n < 4294967296 → Returns value_bits number (number
 unfolding value_bits
 number_back n h = record { low = omega arith; same = refl }
 
-pub place_kept : (ps : List ℕ) (i : ℕ) → Ascending 0 ps → (o : Option ℕ) → get_elem? ps i ≡ o → Kept value_bits number (place_at o)
-place_kept ps i a none e = refusal_kept number out_of_range
-place_kept ps i a (some p) e = let q = number_back p (omega (arith, place_end i p a e)) in kept_ok (number p) q.low q.same
+pub place_kept : (ps : List ℕ) (i : ℕ) → Ascending 0 ps → (o : Option ℕ) → slice_get ps i ≡ o → Kept value_bits number (place_at o)
+place_kept ps i a None e = refusal_kept number out_of_range
+place_kept ps i a (Some p) e = let q = number_back p (omega (arith, place_end i p a e)) in kept_ok (number p) q.low q.same
 
 abbrev found : ℕ → Value
 found r = was (eqb r 1)
@@ -73,7 +74,7 @@ unfolding edit_rule
 edit_back issue read_purge c f = told_ok _ (number_back c.purge (omega (arith, purge_32 issue c.purge (fine_purge issue c f))))
 edit_back issue read_count c f = told_ok _ (number_back (length c.places) (omega (arith, (set_true c.places (fine_places issue c f)).few)))
 edit_back issue (read_place i) c f =
-    told_find (get_elem? c.places i) out_of_range _
+    told_find (slice_get c.places i) out_of_range _
     (λ p e. told_ok _ (number_back p (omega (arith, place_end i p (set_true c.places (fine_places issue c f)).up e))))
 edit_back issue (add p) c f =
     told_cond (member p c.places) _ _
@@ -110,7 +111,7 @@ numbers_back issue n ks h f two =
     segments_back (segments_named ks) (numbers_bytes issue n h f) (omega arith)
 
 -- ---- every call
-lowest_end : (n d : ℕ) (ds : List Draft) → lowest n ds ≡ some d → d < n + length ds
+lowest_end : (n d : ℕ) (ds : List Draft) → lowest n ds ≡ Some d → d < n + length ds
 unfolding lowest
 lowest_end n d [] e = apart cc
 lowest_end n d (closed ∷ ds) e = let same : n ≡ d = cc in omega arith

@@ -3,8 +3,9 @@ use Prim.Native.Nat.{ℕ, zero, suc, ◌-◌, ◌≤◌, ◌<◌}
 use native.Mathlib.Omega.{arith}
 use mathlib.Core.Path.{◌≡◌, refl, sym, ap, ap₂, ◌∙◌}
 use mathlib.Core.List.{List, [], ◌∷◌, map}
-use mathlib.Core.Option.{Option, none, some}
-use lib.ListN.{length, get_or, get_elem?, length-map}
+use Rattle.std.specs.Prelude.{Option, None, Some}
+use lib.ListN.{length, get_or, length-map}
+use Rattle.std.specs.Prelude.{slice_get}
 use lib.Seq.{get_or-take, length-take-le}
 use Rattle.laws.proofs.Tests.{impossible}
 use Rattle.laws.specs.Lists.{All, all_cons}
@@ -39,12 +40,12 @@ use Rattle.making.specs.Make.{or_no_segment}
 use Rattle.plugin.specs.Rules.{contents_of, place_answer, place_in, place_at}
 
 -- an element of a list, and none past its end
-pub at_some : (l : List ℕ) (i d : ℕ) → i < length l → get_elem? l i ≡ some (get_or l i d)
+pub at_some : (l : List ℕ) (i d : ℕ) → i < length l → slice_get l i ≡ Some (get_or l i d)
 at_some [] i d h = impossible (omega arith)
 at_some (x ∷ l) zero d h = refl
 at_some (x ∷ l) (suc i) d h = at_some l i d (omega arith)
 
-pub at_none : {A : Type 0} (l : List A) (i : ℕ) → length l ≤ i → get_elem? l i ≡ none
+pub at_none : {A : Type 0} (l : List A) (i : ℕ) → length l ≤ i → slice_get l i ≡ None
 at_none [] i h = refl
 at_none (x ∷ l) zero h = impossible (omega arith)
 at_none (x ∷ l) (suc i) h = at_none l i (omega arith)
@@ -58,7 +59,7 @@ module _ (s : List ℕ) (issue start i : ℕ) (k : Content) (w : k ≡ content_f
   place_no y q = ap (λ (p : Purge). place_answer i (content_by p k.places)) (sym q) ∙ ap (place_answer i) e
 
   module _ (t at : ℕ) (q : k.purge ≡ purge.At t at) (g : Good k.places) where
-    placed : place_at (get_elem? (held.places_in k.places) i) ≡ place_answer i (content_at s issue start)
+    placed : place_at (slice_get (held.places_in k.places) i) ≡ place_answer i (content_at s issue start)
     placed = ap (λ (p : Purge). place_answer i (content_by p k.places)) (sym q) ∙ ap (place_answer i) e
 
     long : length (held.places_in k.places) ≡ k.places.count
@@ -76,7 +77,7 @@ module _ (s : List ℕ) (issue start i : ℕ) (k : Content) (w : k ≡ content_f
 -- what stands at the start of a segment that is seen is its content
 content_again : (s : List ℕ) (issue : ℕ) (gs : List segments.Segment) (k : ℕ) (d : Segment)
     → All (λ (g : segments.Segment). content_at s issue g.start ≡ ok g.content) gs → k < length gs
-    → content_at s issue (get_or (map seen gs) k d).start ≡ or_no_segment (get_elem? (map (λ (g : segments.Segment). g.content) gs) k)
+    → content_at s issue (get_or (map seen gs) k d).start ≡ or_no_segment (slice_get (map (λ (g : segments.Segment). g.content) gs) k)
 content_again s issue [] k d a h = impossible (omega arith)
 content_again s issue (g ∷ gs) zero d (all_cons e a) h = e
 content_again s issue (g ∷ gs) (suc k) d (all_cons e a) h = content_again s issue gs k d a (omega arith)

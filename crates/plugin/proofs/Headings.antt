@@ -4,7 +4,7 @@ use native.Mathlib.Omega.{arith}
 use mathlib.Core.Path.{◌≡◌, refl, sym, ◌∙◌, subst}
 use mathlib.Core.Bool.{Bool, true, false, cond, ◌||◌}
 use mathlib.Core.List.{List, [], ◌∷◌, ◌++◌}
-use mathlib.Core.Option.{Option, none, some}
+use Rattle.std.specs.Prelude.{Option, None, Some}
 use lib.ListN.{length, drop, get_or, length-append, length-drop}
 use lib.Seq.{drop-drop}
 use lib.Dec.{leb, eqb}
@@ -148,14 +148,14 @@ line2_low n stop h (all_cons {x = l} f a) =
     either_way (Low n (λ (at : ℕ). at ≤ n)) (is_identifier l.body) (low_ok l.start f.start) (low_refused n (λ (at : ℕ). at ≤ n) wrong_identifier l.start f.start)
 
 -- ---- the storm
-class_most : (k : ℕ) (c : ClassName) → class_of k ≡ some c → k ≤ 99
+class_most : (k : ℕ) (c : ClassName) → class_of k ≡ Some c → k ≤ 99
 unfolding class_of
 class_most k c e =
     by (between 1 49 k) (λ t. within 1 49 (omega arith) t)
     λ t1. by (between 50 79 k) (λ t. within 50 79 (omega arith) t)
     λ t2. by (between 80 89 k) (λ t. within 80 89 (omega arith) t)
     λ t3. by (between 90 99 k) (λ t. within 90 99 (omega arith) t)
-    λ t4. let f : none ≡ some c = rw (t1, t2, t3, t4) at e in apart cc
+    λ t4. let f : None ≡ Some c = rw (t1, t2, t3, t4) at e in apart cc
   where
     within : (low high : ℕ) → high ≤ 99 → between low high k ≡ true → k ≤ 99
     within low high h t = omega (arith, leb-true k high (and_right (leb low k) (leb k high) t))
@@ -174,29 +174,29 @@ end_letters s e =
     let k : length s - 9 + 1 ≡ length s - 8 = omega (arith, length-drop (length s - 9) s) in
     subst (λ (j : ℕ). All Letter (drop j s)) k (subst (All Letter) (drop-drop 1 (length s - 9) s) (all_drop 1 (letters storm_form t safe_storm e)))
 
-one_known : (w : Basin) (t : Bool) (rest : Option (List ℕ)) (b : List ℕ) → cond t (some (paper_basin w)) rest ≡ some b → (rest ≡ some b → Known b) → Known b
+one_known : (w : Basin) (t : Bool) (rest : Option (List ℕ)) (b : List ℕ) → cond t (Some (paper_basin w)) rest ≡ Some b → (rest ≡ Some b → Known b) → Known b
 one_known w true rest b e f = record { basin = w; same = cc }
 one_known w false rest b e f = f e
 
-basin_known : (e b : List ℕ) → basin_of e ≡ some b → Known b
+basin_known : (e b : List ℕ) → basin_of e ≡ Some b → Known b
 unfolding basin_of
 basin_known e b h =
     one_known Al (begins (word "AL") e) _ b h
     λ h1. one_known Sl (begins (word "SL") e) _ b h1
     λ h2. one_known Ep (begins (word "EP") e) _ b h2
     λ h3. one_known Cp (begins (word "CP") e) _ b h3
-    λ h4. one_known Wp (begins (word "WP") e) none b h4
+    λ h4. one_known Wp (begins (word "WP") e) None b h4
     λ h5. apart cc
 
 identified_small : (d : List ℕ) (b : Option (List ℕ)) (k y : ℕ) (c : Option ClassName) (x : StormName) → basin_of d ≡ b → class_of k ≡ c → y < year_end
-    → identified b c k y ≡ storms.storm x → Small (some x)
-identified_small d none k y c x p q h e = apart cc
-identified_small d (some b) k y none x p q h e = apart cc
-identified_small d (some b) k y (some c) x p q h e =
+    → identified b c k y ≡ storms.storm x → Small (Some x)
+identified_small d None k y c x p q h e = apart cc
+identified_small d (Some b) k y None x p q h e = apart cc
+identified_small d (Some b) k y (Some c) x p q h e =
     let same : record { basin = b; class = c; number = k; year = y } ≡ x = cc in
-    subst (λ (s : StormName). Small (some s)) same (small_some (basin_known d b p) (omega (arith, class_most k c q)) h)
+    subst (λ (s : StormName). Small (Some s)) same (small_some (basin_known d b p) (omega (arith, class_most k c q)) h)
 
-storm_small : (s : List ℕ) (x : StormName) → storm_of s ≡ storms.storm x → Small (some x)
+storm_small : (s : List ℕ) (x : StormName) → storm_of s ≡ storms.storm x → Small (Some x)
 unfolding storm_of
 storm_small s x e =
     by (names_storm s)
@@ -209,12 +209,12 @@ storm_small s x e =
     (λ t. let f : storms.no_storm ≡ storms.storm x = rw t at e in apart cc)
 
 said_low : (n : ℕ) (l : Line) → Within n l → (x : StormSaid) → storm_of l.body ≡ x → Low n Small (storm_said l x)
-said_low n l f storms.no_storm e = low_ok none small_none
-said_low n l f (storms.storm name) e = low_ok (some name) (storm_small l.body name e)
+said_low n l f storms.no_storm e = low_ok None small_none
+said_low n l f (storms.storm name) e = low_ok (Some name) (storm_small l.body name e)
 said_low n l f storms.refused_storm e = low_refused n Small wrong_storm (l.start + (length l.body - 8)) (omega (arith, f.start, f.end))
 
 office_low : (n : ℕ) {ls : List Line} → All (Within n) ls → Low n Small (office_storm ls)
-office_low n all_nil = low_ok none small_none
+office_low n all_nil = low_ok None small_none
 office_low n (all_cons {x = l} f a) = said_low n l f (storm_of l.body) refl
 
 pub storm_low : (n : ℕ) {ls : List Line} → All (Within n) ls → Low n Small (storm_in ls)

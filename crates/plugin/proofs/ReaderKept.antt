@@ -4,8 +4,9 @@ use native.Mathlib.Omega.{arith}
 use mathlib.Core.Path.{◌≡◌, refl}
 use mathlib.Core.Bool.{true}
 use mathlib.Core.List.{List, [], ◌∷◌, map}
-use mathlib.Core.Option.{Option, none, some}
-use lib.ListN.{length, take, drop, get_elem?, length-map}
+use Rattle.std.specs.Prelude.{Option, None, Some}
+use lib.ListN.{length, take, drop, length-map}
+use Rattle.std.specs.Prelude.{slice_get}
 use lib.Dec.{leb, eqb}
 use borrow.Author.Tests.{leb-true}
 use Rattle.laws.proofs.Tests.{apart, by, either_way, and_right}
@@ -70,8 +71,8 @@ bounded : (h : Heading) (at issue : ℕ) (s : Option StormName) (gs : List segme
 bounded h at issue s gs m i small a = record { marked = m; identifier = i; storm = small; segments = a }
 
 issued_low : (o : Option ℕ) → Low text_most Any (issued o)
-issued_low none = low_refused text_most Any wrong_time 0 (omega arith)
-issued_low (some m) = low_ok m tt
+issued_low None = low_refused text_most Any wrong_time 0 (omega arith)
+issued_low (Some m) = low_ok m tt
 
 length_most : (text : List ℕ) → is_length text ≡ true → length text ≤ text_most
 unfolding is_length
@@ -230,9 +231,9 @@ module _ (text : List ℕ) (year month n i : ℕ) where
   contents_fine : (b : Bulletin) → read_bulletin text year month ≡ ok b → All (Fine b.issue) (contents_of b)
   contents_fine b e = all_each (λ (g : segments.Segment). g.content) (λ g f. f) (made_fine text year month b e)
 
-  place_of : (issue : ℕ) (o : Option codes.Content) → ((c : codes.Content) → o ≡ some c → Fine issue c) → Kept value_bits number (place_answer i (or_no_segment o))
-  place_of issue none f = refused_kept value_bits number no_such_segment 0 (omega arith)
-  place_of issue (some c) f = place_kept c.places i (set_true c.places (fine_places issue c (f c refl))).up (get_elem? c.places i) refl
+  place_of : (issue : ℕ) (o : Option codes.Content) → ((c : codes.Content) → o ≡ Some c → Fine issue c) → Kept value_bits number (place_answer i (or_no_segment o))
+  place_of issue None f = refused_kept value_bits number no_such_segment 0 (omega arith)
+  place_of issue (Some c) f = place_kept c.places i (set_true c.places (fine_places issue c (f c refl))).up (slice_get c.places i) refl
 
   place_in_lem : (a : Answer Bulletin) → read_bulletin text year month ≡ a → Low text_most Bounded a
       → Kept value_bits number (and_then a (λ (b : Bulletin). place_answer i (or_no_segment (at (contents_of b) n))))
@@ -268,8 +269,8 @@ written_kept (ok _) (low_ok block k) = kept_ok (length block) (omega arith) refl
 written_kept (no _ _) (low_no reason place one most k) = kept_no {reason = reason} {place = place} one most (omega arith)
 
 dated_low : (ps : List ℕ) → is_set ps ≡ true → (o : Option Date) → Low text_most Short (dated_block CrCrLf ps o)
-dated_low ps t none = low_refused text_most Short out_of_range 0 (omega arith)
-dated_low ps t (some d) = low_ok _ (written_most_lem CrCrLf ps d.stamp t)
+dated_low ps t None = low_refused text_most Short out_of_range 0 (omega arith)
+dated_low ps t (Some d) = low_ok _ (written_most_lem CrCrLf ps d.stamp t)
 
 block_low : (ps : List ℕ) (minute : ℕ) → Low text_most Short (written_block CrCrLf ps minute)
 unfolding written_block
@@ -294,8 +295,8 @@ module _ (room : ℕ) where
   segment_low b s = go (segment_block b s) refl
     where
       go : (o : Option (List ℕ)) → segment_block b s ≡ o → Low text_most Short (or_no_segment o)
-      go none q = low_refused text_most Short no_such_segment 0 (omega arith)
-      go (some block) q = low_ok block (segment_most b s block q)
+      go None q = low_refused text_most Short no_such_segment 0 (omega arith)
+      go (Some block) q = low_ok block (segment_most b s block q)
 
   write_low : (l : List ℕ) (s : ℕ) → Low text_most Short (write_on l s room)
   unfolding write_on

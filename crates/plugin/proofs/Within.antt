@@ -5,7 +5,7 @@ use native.Mathlib.Omega.{arith}
 use mathlib.Core.Path.{◌≡◌, refl, sym, ap, ◌∙◌, subst}
 use mathlib.Core.Bool.{Bool, true, false, cond}
 use mathlib.Core.List.{List, [], ◌∷◌}
-use mathlib.Core.Option.{Option, none, some}
+use Rattle.std.specs.Prelude.{Option, None, Some}
 use lib.ListN.{length, drop, length-drop}
 use lib.Dec.{leb, ltb, eqb}
 use borrow.Author.Tests.{ltb-true}
@@ -116,9 +116,9 @@ ended_in n false r next h k = k
 read_in : (stop n : ℕ) → stop ≤ n → (last : Option ℕ) (got : List ℕ) {es : List Element} → All (Placed n) es → last_of (read_from stop last got es) ≤ n
 unfolding read_from
 read_in stop n h last got all_nil = h
-read_in stop n h last got (all_cons {x = e} {xs = es} f a) = go (λ p k m. read_in stop n h (some p) (insert_covered p k m got) a) (said last e.bytes) refl
+read_in stop n h last got (all_cons {x = e} {xs = es} f a) = go (λ p k m. read_in stop n h (Some p) (insert_covered p k m got) a) (said last e.bytes) refl
   where
-    go : ((p k m : ℕ) → last_of (read_from stop (some p) (insert_covered p k m got) es) ≤ n)
+    go : ((p k m : ℕ) → last_of (read_from stop (Some p) (insert_covered p k m got) es) ≤ n)
         → (r : Said) → said last e.bytes ≡ r → last_of (read_from stop last got (e ∷ es)) ≤ n
     go i (covers p k m) q = subst (λ (r : Read). last_of r ≤ n) (sym (read_covers stop last got e es p k m q)) (i p k m)
     go i (purge u) q =
@@ -127,20 +127,20 @@ read_in stop n h last got (all_cons {x = e} {xs = es} f a) = go (λ p k m. read_
     go i wrong q = subst (λ (r : Read). last_of r ≤ n) (sym (read_wrong stop last got e es q)) f.at
 
 -- and that of the first one that covers a place already covered
-twice_in : (n : ℕ) (last : Option ℕ) (before : List Stretch) {es : List Element} → All (Placed n) es → (y : ℕ) → twice_from last before es ≡ some y → y ≤ n
+twice_in : (n : ℕ) (last : Option ℕ) (before : List Stretch) {es : List Element} → All (Placed n) es → (y : ℕ) → twice_from last before es ≡ Some y → y ≤ n
 unfolding twice_from
 twice_in n last before all_nil y w = apart cc
-twice_in n last before (all_cons {x = e} {xs = es} f a) y w = go (λ p l. twice_in n (some p) l a y) (said last e.bytes) refl
+twice_in n last before (all_cons {x = e} {xs = es} f a) y w = go (λ p l. twice_in n (Some p) l a y) (said last e.bytes) refl
   where
-    go : ((p : ℕ) (l : List Stretch) → twice_from (some p) l es ≡ some y → y ≤ n) → (r : Said) → said last e.bytes ≡ r → y ≤ n
+    go : ((p : ℕ) (l : List Stretch) → twice_from (Some p) l es ≡ Some y → y ≤ n) → (r : Said) → said last e.bytes ≡ r → y ≤ n
     go i (covers p k m) q =
-        let v : cond (covered_before (stretch_of p k m) before) (some e.at) (twice_from (some p) (stretch_of p k m ∷ before) es) ≡ some y =
+        let v : cond (covered_before (stretch_of p k m) before) (Some e.at) (twice_from (Some p) (stretch_of p k m ∷ before) es) ≡ Some y =
         sym (twice_covers last before e es p k m q) ∙ w in
         by (covered_before (stretch_of p k m) before)
-        (λ t. let z : some e.at ≡ some y = rw t at v in let x : e.at ≡ y = cc in omega (arith, f.at))
+        (λ t. let z : Some e.at ≡ Some y = rw t at v in let x : e.at ≡ y = cc in omega (arith, f.at))
         (λ t. i p (stretch_of p k m ∷ before) (rw t at v))
-    go i (purge u) q = let z : none ≡ some y = sym (twice_purge last before e es u q) ∙ w in apart cc
-    go i wrong q = let z : none ≡ some y = sym (twice_wrong last before e es q) ∙ w in apart cc
+    go i (purge u) q = let z : None ≡ Some y = sym (twice_purge last before e es u q) ∙ w in apart cc
+    go i wrong q = let z : None ≡ Some y = sym (twice_wrong last before e es q) ∙ w in apart cc
 
 -- ---- answers: what is accepted has a property, and what is refused has a number and a place
 pub data Low (n : ℕ) {A : Type 0} (P : A → Type 0) : Answer A → Type 0 where
@@ -173,49 +173,49 @@ module _ (text : List ℕ) (n : ℕ) (fits : length text ≤ n) where
       lines_within_lem n at (pieces lf (drop at text)) (omega (arith, length-drop at text))
 
 -- the place of a wrong byte, line or end
-bad_in : (n at : ℕ) (s : List ℕ) (p : ℕ) → at + length s ≤ n → bad_byte at s ≡ some p → p ≤ n
+bad_in : (n at : ℕ) (s : List ℕ) (p : ℕ) → at + length s ≤ n → bad_byte at s ≡ Some p → p ≤ n
 unfolding bad_byte
 bad_in n at [] p h e = apart cc
 bad_in n at (b ∷ s) p h e =
     by (allowed b s)
     (λ t. bad_in n (suc at) s p (omega arith) (rw t at e))
-    (λ t. let f : some at ≡ some p = rw t at e in let g : at ≡ p = cc in omega arith)
+    (λ t. let f : Some at ≡ Some p = rw t at e in let g : at ≡ p = cc in omega arith)
 
-long_in : (n : ℕ) {ls : List Line} (p : ℕ) → All (Within n) ls → long_line ls ≡ some p → p ≤ n
+long_in : (n : ℕ) {ls : List Line} (p : ℕ) → All (Within n) ls → long_line ls ≡ Some p → p ≤ n
 unfolding long_line
 long_in n p all_nil e = apart cc
 long_in n p (all_cons {x = l} f a) e =
     by (ltb line_most (length l.body))
     (λ t.
-    let g : some (l.start + line_most) ≡ some p = rw t at e in
+    let g : Some (l.start + line_most) ≡ Some p = rw t at e in
     let q : l.start + line_most ≡ p = cc in
     omega (arith, f.end, ltb-true line_most (length l.body) t))
     (λ t. long_in n p a (rw t at e))
 
 -- the lesser of two places, if there is one
 abbrev In : ℕ → Option ℕ → Type 0
-In n o = (p : ℕ) → o ≡ some p → p ≤ n
+In n o = (p : ℕ) → o ≡ Some p → p ≤ n
 
 least_in : (n : ℕ) (o q : Option ℕ) → In n o → In n q → In n (least o q)
 unfolding least
-least_in n none q f g p e = g p e
-least_in n (some m) none f g p e = f p e
-least_in n (some m) (some k) f g p e =
+least_in n None q f g p e = g p e
+least_in n (Some m) None f g p e = f p e
+least_in n (Some m) (Some k) f g p e =
     let same : min m k ≡ p = cc in
     let low : m ≤ n = f m refl in
     omega (arith, min-le_left m k)
 
 -- a refusal at a place that lies in the text
 at_low : (n : ℕ) (r : Reason) (o : Option ℕ) → In n o → Low n Any (refused_at r o)
-at_low n r none f = low_ok tt tt
-at_low n r (some p) f = low_refused n Any r p (f p refl)
+at_low n r None f = low_ok tt tt
+at_low n r (Some p) f = low_refused n Any r p (f p refl)
 
 unended_in : (text : List ℕ) (n : ℕ) → length text ≤ n → In n (unended text)
 unfolding unended
 unended_in text n fits p e =
     by (last_ends text)
-    (λ t. let f : none ≡ some p = rw t at e in apart cc)
-    (λ t. let f : some (length text) ≡ some p = rw t at e in let g : length text ≡ p = cc in omega arith)
+    (λ t. let f : None ≡ Some p = rw t at e in apart cc)
+    (λ t. let f : Some (length text) ≡ Some p = rw t at e in let g : length text ≡ p = cc in omega arith)
 
 pub check_low : (text : List ℕ) (n : ℕ) → length text ≤ n → Low n Any (check_text text)
 unfolding check_text text_fault
@@ -239,14 +239,14 @@ lies n start after past end c a b d = record { start = a; block = b; past = d }
 
 module _ (n start : ℕ) (h : start ≤ n) where
   dated_low : (at : ℕ) (ps : List ℕ) (o : Option ℕ) → at ≤ n → Low n Any (dated start at ps o)
-  dated_low at ps none k = low_refused n Any wrong_time at k
-  dated_low at ps (some t) k =
+  dated_low at ps None k = low_refused n Any wrong_time at k
+  dated_low at ps (Some t) k =
       either_way (Low n Any) (leb (length ps) capacity) (low_ok (record { purge = t; places = ps }) tt) (low_refused n Any too_many_places start h)
 
-  content_in_lem : (issue : ℕ) (w : Option ℕ) (r : Read) → ((y : ℕ) → w ≡ some y → y ≤ n) → last_of r ≤ n → Low n Any (content_in issue start w r)
+  content_in_lem : (issue : ℕ) (w : Option ℕ) (r : Read) → ((y : ℕ) → w ≡ Some y → y ≤ n) → last_of r ≤ n → Low n Any (content_in issue start w r)
   content_in_lem issue w (wrong_at place) g k = low_refused n Any wrong_block place k
-  content_in_lem issue (some y) (block ps s at) g k = low_refused n Any place_twice y (g y refl)
-  content_in_lem issue none (block ps s at) g k = dated_low at ps (purge_of issue s) k
+  content_in_lem issue (Some y) (block ps s at) g k = low_refused n Any place_twice y (g y refl)
+  content_in_lem issue None (block ps s at) g k = dated_low at ps (purge_of issue s) k
 
   purge_low : (r : Read) → last_of r ≤ n → Low n Any (purge_place r)
   purge_low (wrong_at place) k = low_refused n Any wrong_block place k
@@ -260,11 +260,11 @@ module _ (text : List ℕ) (n : ℕ) (fits : length text ≤ n) where
   block_in_lem : (at : ℕ) → at ≤ length text → last_of (read_block text at) ≤ length text
   unfolding read_block
   block_in_lem at h =
-      read_in (length text) (length text) (omega arith) none [] (elements_lines (on_within text (length text) (omega arith) at h))
+      read_in (length text) (length text) (omega arith) None [] (elements_lines (on_within text (length text) (omega arith) at h))
 
-  repeat_in : (at : ℕ) → at ≤ length text → (y : ℕ) → twice_at text at ≡ some y → y ≤ length text
+  repeat_in : (at : ℕ) → at ≤ length text → (y : ℕ) → twice_at text at ≡ Some y → y ≤ length text
   unfolding twice_at
-  repeat_in at h = twice_in (length text) none [] (elements_lines (on_within text (length text) (omega arith) at h))
+  repeat_in at h = twice_in (length text) None [] (elements_lines (on_within text (length text) (omega arith) at h))
 
   content_low : (issue at : ℕ) → at ≤ length text → Low n Any (content_at text issue at)
   unfolding content_at

@@ -1,7 +1,7 @@
 -- What the reader's functions answer of a bulletin, and of one of its segments.
 use Rattle.std.specs.Prelude.{ℕ, List, map, length}
-use Rattle.std.proofs.Math.Option.{Option, none, some}
-use Rattle.std.proofs.Math.ListN.{get_elem?}
+use Rattle.std.specs.Prelude.{Option, None, Some}
+use Rattle.std.specs.Prelude.{slice_get}
 use Rattle.refusal.specs.Numbers.{out_of_range}
 use Rattle.refusal.specs.Answer.{Answer, ok, no, refused, and_then}
 use Rattle.codes.specs.Block.{Content}
@@ -48,11 +48,11 @@ abbrev pub contents_of : Bulletin → List Content
 contents_of b = map (λ (g : segments.Segment). g.content) b.segments
 
 abbrev pub place_at : Option ℕ → calls.BookAnswer
-place_at none = refused out_of_range 0
-place_at (some p) = ok (calls.number p)
+place_at None = refused out_of_range 0
+place_at (Some p) = ok (calls.number p)
 
 abbrev pub place_answer : ℕ → Answer Content → calls.BookAnswer
-place_answer i (ok c) = place_at (get_elem? c.places i)
+place_answer i (ok c) = place_at (slice_get c.places i)
 place_answer i (no reason place) = no reason place
 
 unfoldable pub place_in : List ℕ → ℕ → ℕ → ℕ → ℕ → calls.BookAnswer

@@ -1,6 +1,6 @@
 -- What the paper says of the first line's answer is said of no other. Assumes nothing.
 use mathlib.Core.Path.{◌≡◌, refl}
-use mathlib.Core.Option.{Option}
+use Rattle.std.specs.Prelude.{Option}
 use Rattle.laws.proofs.Tests.{apart}
 use Rattle.printing.specs.Asked.{YearMonth}
 use Rattle.printing.specs.Paper.{paper_asked}

@@ -1,6 +1,6 @@
 -- Document 01: "The listing program reads standard input: `YYYY MM` and LF (eight bytes), then the bulletin."
 use Rattle.std.specs.Prelude.{ℕ, ◌+◌, ◌*◌, List, ◌++◌, cond, drop}
-use Rattle.std.proofs.Math.Option.{Option, none, some}
+use Rattle.std.specs.Prelude.{Option, None, Some}
 use Rattle.lines.specs.Bytes.{Kind, digit, word, begins}
 use Rattle.heading.specs.Heading.{times}
 use Rattle.codes.specs.Places.{two_of}
@@ -14,4 +14,4 @@ pub record YearMonth : Type 0 where
   pub month : ℕ
 
 unfoldable pub asked_of : List ℕ → Option YearMonth
-asked_of s = cond (begins asked_form s) (some (record { year = 100 * two_of s + two_of (drop 2 s); month = two_of (drop 5 s) })) none
+asked_of s = cond (begins asked_form s) (Some (record { year = 100 * two_of s + two_of (drop 2 s); month = two_of (drop 5 s) })) None

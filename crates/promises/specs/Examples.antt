@@ -1,7 +1,7 @@
 -- Document 01, "Examples on both sides": the lines marked P, as document 02 amends them, as one table of what the written rules say.
 use Rattle.std.specs.Prelude.{ℕ, List, [], ◌∷◌, ◌++◌, Bool, false, ◌&&◌, length, drop, eqb}
 use Prim.Native.String.{String}
-use Rattle.std.proofs.Math.Option.{Option, none, some}
+use Rattle.std.specs.Prelude.{Option, None, Some}
 use Rattle.refusal.specs.Answer.{Answer, ok, no, and_then}
 use Rattle.lines.specs.Bytes.{bytes}
 use Rattle.calendar.specs.Calendar.{minute_of}
@@ -71,8 +71,8 @@ abbrev pub bulletin_read : String → String → Answer Bulletin
 bulletin_read bbb end = read_bulletin (bulletin_with bbb end) 2002 4
 
 abbrev pub is_bbb : String → Option (List ℕ) → Bool
-is_bbb bbb none = false
-is_bbb bbb (some bs) = same_list bs (bytes bbb)
+is_bbb bbb None = false
+is_bbb bbb (Some bs) = same_list bs (bytes bbb)
 
 abbrev pub has_bbb : String → Answer Bulletin → Bool
 has_bbb bbb (ok b) = is_bbb bbb b.heading.bbb
@@ -86,8 +86,8 @@ first_number training = 80
 first_number disturbance = 90
 
 abbrev pub is_of_class : ClassName → Option StormName → Bool
-is_of_class c none = false
-is_of_class c (some s) = eqb (first_number c) (first_number s.class)
+is_of_class c None = false
+is_of_class c (Some s) = eqb (first_number c) (first_number s.class)
 
 abbrev pub has_storm : ClassName → Answer Bulletin → Bool
 has_storm c (ok b) = is_of_class c b.storm

@@ -4,7 +4,7 @@ use native.Mathlib.Omega.{arith}
 use mathlib.Core.Path.{◌≡◌, refl, sym, ap, ap₂, ◌∙◌}
 use mathlib.Core.List.{List, [], ◌∷◌, ◌++◌}
 use mathlib.Core.Bool.{Bool, true, false}
-use mathlib.Core.Option.{Option, none, some}
+use Rattle.std.specs.Prelude.{Option, None, Some}
 use borrow.Author.Tests.{le-leb, lt-leb}
 use lib.Dec.{leb}
 use lib.ListN.{length, take, drop, replicate, length-replicate, take-append-drop}
@@ -62,8 +62,8 @@ pub bare_is : (found : Found) (over : Bool) (t : Places) → t ≡ places_for []
 bare_is found over t e = rw e
 
 pub over_good : (t : Option ℕ) (x : Rest) (r : Block) → r ≡ over_for t x → Good r.places
-over_good none (rest.Purge s at) r e = rw e none_good
-over_good (some again) (rest.Purge s at) r e = rw e none_good
+over_good None (rest.Purge s at) r e = rw e none_good
+over_good (Some again) (rest.Purge s at) r e = rw e none_good
 over_good t (rest.Wrong place) r e = rw e none_good
 
 -- the first repeating element from the reading place on
@@ -144,7 +144,7 @@ module _ (s : List ℕ) (at : ℕ) (c : Cursor) (array : List ℕ) (count : ℕ)
     reads_less = omega (arith, ahead.inside, ahead.more, ahead.within)
 
     pub reads_known : Known behind
-    reads_known = record { low = below_known (some p) ahead.low.known }
+    reads_known = record { low = below_known (Some p) ahead.low.known }
 
     some_here : Some here
     some_here = record { order = omega (arith, ahead.low.order) }
@@ -153,17 +153,17 @@ module _ (s : List ℕ) (at : ℕ) (c : Cursor) (array : List ℕ) (count : ℕ)
     unfolding gathered
     more_is = let f : suc m - n ≡ suc (place_of p m) - place_of p n = omega arith in ap (λ (k : ℕ). insert_run k (place_of p n) got) f
 
-    next_is : read_from (length s) (some p) (gathered (here ∷ v.before)) rest_of_lem ≡ read_block s at
+    next_is : read_from (length s) (Some p) (gathered (here ∷ v.before)) rest_of_lem ≡ read_block s at
     next_is = rw (← more_is) (then_is (Step.Covers p n m next) q)
 
     -- the end of the rest is the block's
     ends : rest_of (read_on s behind) ≡ rest_of (read_block s at)
-    ends = rest_any (length s) (some p) [] (gathered (here ∷ v.before)) rest_of_lem ∙ ap rest_of next_is
+    ends = rest_any (length s) (Some p) [] (gathered (here ∷ v.before)) rest_of_lem ∙ ap rest_of next_is
 
     -- where there are more than 120 places, or one of them twice, none is kept
-    is_over_lem : (t : Option ℕ) (x : Read) → ((ps : List ℕ) (stamp : Stamp) (z : ℕ) → x ≡ block ps stamp z → t ≡ none → 120 < length ps) → over_for t (rest_of x) ≡ block_for t x
-    is_over_lem none (block ps stamp z) h = rw (lt-leb (length ps) 120 (h ps stamp z refl refl))
-    is_over_lem (some y) (block ps stamp z) h = refl
+    is_over_lem : (t : Option ℕ) (x : Read) → ((ps : List ℕ) (stamp : Stamp) (z : ℕ) → x ≡ block ps stamp z → t ≡ None → 120 < length ps) → over_for t (rest_of x) ≡ block_for t x
+    is_over_lem None (block ps stamp z) h = rw (lt-leb (length ps) 120 (h ps stamp z refl refl))
+    is_over_lem (Some y) (block ps stamp z) h = refl
     is_over_lem t (wrong_at z) h = refl
 
     module _ (array' : List ℕ) (x : Put) (w : Grown array count (place_of p n) (place_of p m + 1) array' x) where
@@ -198,13 +198,13 @@ module _ (s : List ℕ) (at : ℕ) (c : Cursor) (array : List ℕ) (count : ℕ)
           let k : 120 < length (gathered (here ∷ v.before)) = held_many true (kept array' count) (gathered (here ∷ v.before)) (rw h at (held_now t)) refl in
           eb ∙ ap (over_for (twice_at s at)) ends
           ∙ is_over_lem (twice_at s at) (read_block s at)
-          (λ ps stamp z g o. omega (arith, read_long (length s) (some p) (gathered (here ∷ v.before)) rest_of_lem ps stamp z (next_is ∙ g)))
+          (λ ps stamp z g o. omega (arith, read_long (length s) (Some p) (gathered (here ∷ v.before)) rest_of_lem ps stamp z (next_is ∙ g)))
 
       -- covered twice
-      pub reads_twice : x ≡ put.Twice → (b : Block) → b ≡ over_for (some c.at) (rest_of (read_on s behind)) → b ≡ block_for (twice_at s at) (read_block s at)
+      pub reads_twice : x ≡ put.Twice → (b : Block) → b ≡ over_for (Some c.at) (rest_of (read_on s behind)) → b ≡ block_for (twice_at s at) (read_block s at)
       reads_twice h b eb =
           let z : is_twice x ≡ true = rw h in
           let a : covered_before here v.before ≡ true = sym again_is ∙ z in
-          let t : some c.at ≡ twice_at s at = rw a at (twice_is (Step.Covers p n m next) q) in
-          eb ∙ ap (over_for (some c.at)) ends ∙ is_over_lem (some c.at) (read_block s at) (λ ps stamp k g o. apart cc)
+          let t : Some c.at ≡ twice_at s at = rw a at (twice_is (Step.Covers p n m next) q) in
+          eb ∙ ap (over_for (Some c.at)) ends ∙ is_over_lem (Some c.at) (read_block s at) (λ ps stamp k g o. apart cc)
           ∙ ap (λ (y : Option ℕ). block_for y (read_block s at)) t

@@ -3,7 +3,7 @@ use Prim.Native.Nat.{ℕ}
 use mathlib.Core.Path.{◌≡◌, refl, sym, ap, ap₂, ◌∙◌}
 use mathlib.Core.List.{List, []}
 use mathlib.Core.Bool.{true, false}
-use mathlib.Core.Option.{Option, none, some}
+use Rattle.std.specs.Prelude.{Option, None, Some}
 use lib.ListN.{length}
 use lib.Dec.{leb}
 use Rattle.laws.proofs.Tests.{by, apart}
@@ -28,40 +28,40 @@ use Rattle.reading.specs.declared.Content.{Content}
 use Rattle.reading.proofs.Blocks.{none_good}
 
 -- what the code's block says of the block that is read
-whole_found : (t : Option ℕ) (s : Stamp) (at : ℕ) (ps : List ℕ) (f : Found) → (whole_for t s at ps).found ≡ f → (t ≡ none → Whole s at ≡ f) × ((again : ℕ) → t ≡ some again → Twice again ≡ f)
-whole_found none s at ps f e = ((λ n. by (leb (length ps) 120) (λ t. rw t at e) (λ t. rw t at e)), (λ again n. apart cc))
-whole_found (some y) s at ps f e = ((λ n. apart cc), (λ again n. let q : again ≡ y = cc in rw q e))
+whole_found : (t : Option ℕ) (s : Stamp) (at : ℕ) (ps : List ℕ) (f : Found) → (whole_for t s at ps).found ≡ f → (t ≡ None → Whole s at ≡ f) × ((again : ℕ) → t ≡ Some again → Twice again ≡ f)
+whole_found None s at ps f e = ((λ n. by (leb (length ps) 120) (λ t. rw t at e) (λ t. rw t at e)), (λ again n. apart cc))
+whole_found (Some y) s at ps f e = ((λ n. apart cc), (λ again n. let q : again ≡ y = cc in rw q e))
 
 wrong_is : (place : ℕ) (t : Option ℕ) (x : Read) → (block_for t x).found ≡ Wrong place → x ≡ wrong_at place
 wrong_is place t (wrong_at p) e = let q : p ≡ place = cc in ap wrong_at q
-wrong_is place none (block ps s at) e = let f : Whole s at ≡ Wrong place = (whole_found none s at ps (Wrong place) e).0 refl in apart cc
-wrong_is place (some y) (block ps s at) e = apart cc
+wrong_is place None (block ps s at) e = let f : Whole s at ≡ Wrong place = (whole_found None s at ps (Wrong place) e).0 refl in apart cc
+wrong_is place (Some y) (block ps s at) e = apart cc
 
 record Again (again : ℕ) (t : Option ℕ) (x : Read) : Type 0 where
   ps : List ℕ
   stamp : Stamp
   at : ℕ
   is : x ≡ block ps stamp at
-  twice : t ≡ some again
+  twice : t ≡ Some again
 
 again_is : (again : ℕ) (t : Option ℕ) (x : Read) → (block_for t x).found ≡ Twice again → Again again t x
 again_is again t (wrong_at p) e = apart cc
-again_is again none (block ps s at) e = let f : Whole s at ≡ Twice again = (whole_found none s at ps (Twice again) e).0 refl in apart cc
-again_is again (some y) (block ps s at) e = let q : y ≡ again = cc in record { ps = ps; stamp = s; at = at; is = refl; twice = ap some q }
+again_is again None (block ps s at) e = let f : Whole s at ≡ Twice again = (whole_found None s at ps (Twice again) e).0 refl in apart cc
+again_is again (Some y) (block ps s at) e = let q : y ≡ again = cc in record { ps = ps; stamp = s; at = at; is = refl; twice = ap Some q }
 
 record Wholly (s : Stamp) (at : ℕ) (t : Option ℕ) (x : Read) : Type 0 where
   ps : List ℕ
   is : x ≡ block ps s at
-  once : t ≡ none
+  once : t ≡ None
 
 whole_is : (s : Stamp) (at : ℕ) (t : Option ℕ) (x : Read) → (block_for t x).found ≡ Whole s at → Wholly s at t x
 whole_is s at t (wrong_at p) e = apart cc
-whole_is s at none (block ps s' at') e =
-    let f : Whole s' at' ≡ Whole s at = (whole_found none s' at' ps (Whole s at) e).0 refl in
+whole_is s at None (block ps s' at') e =
+    let f : Whole s' at' ≡ Whole s at = (whole_found None s' at' ps (Whole s at) e).0 refl in
     let a : s' ≡ s = cc in
     let b : at' ≡ at = cc in
     record { ps = ps; is = λ i. block ps (a i) (b i); once = refl }
-whole_is s at (some y) (block ps s' at') e = apart cc
+whole_is s at (Some y) (block ps s' at') e = apart cc
 
 pub refused_is : (p : Purge) (t : Places) → t ≡ places_for [] → ◌≡◌ {A = Content} (record { purge = p; places = t }) (record { purge = p; places = places_for [] })
 refused_is p t e = rw e
@@ -90,7 +90,7 @@ module _ (s : List ℕ) (issue start : ℕ) (b : Block) (eb : b ≡ block_for (t
     wholly : Wholly stamp place (twice_at s start) (read_block s start)
     wholly = whole_is stamp place (twice_at s start) (read_block s start) (sym (ap (λ (x : Block). x.found) eb) ∙ f)
 
-    read_is : b ≡ block_for none (block wholly.ps stamp place)
+    read_is : b ≡ block_for None (block wholly.ps stamp place)
     read_is = eb ∙ ap₂ block_for wholly.once wholly.is
 
     abbrev told : Moment → Answer Placed

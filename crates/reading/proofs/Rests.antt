@@ -4,7 +4,7 @@ use native.Mathlib.Omega.{arith}
 use mathlib.Core.Path.{◌≡◌, refl, sym, ap, ◌∙◌}
 use mathlib.Core.List.{List, [], ◌∷◌}
 use mathlib.Core.Bool.{Bool, true, false}
-use mathlib.Core.Option.{Option, none, some}
+use Rattle.std.specs.Prelude.{Option, None, Some}
 use lib.ListN.{length, drop}
 use Rattle.laws.proofs.Tests.{apart}
 use Rattle.calendar.specs.declared.Stamp.{Stamp}
@@ -38,9 +38,9 @@ ends_any false got other t at next = refl
 pub rest_any : (stop : ℕ) (last : Option ℕ) (got other : List ℕ) (es : List Element) → rest_of (read_from stop last got es) ≡ rest_of (read_from stop last other es)
 unfolding read_from
 rest_any stop last got other [] = refl
-rest_any stop last got other (e ∷ es) = go (λ p a b. rest_any stop (some p) a b es) (said last e.bytes) refl
+rest_any stop last got other (e ∷ es) = go (λ p a b. rest_any stop (Some p) a b es) (said last e.bytes) refl
   where
-    go : ((p : ℕ) (a b : List ℕ) → rest_of (read_from stop (some p) a es) ≡ rest_of (read_from stop (some p) b es))
+    go : ((p : ℕ) (a b : List ℕ) → rest_of (read_from stop (Some p) a es) ≡ rest_of (read_from stop (Some p) b es))
         → (x : elements.Said) → said last e.bytes ≡ x → rest_of (read_from stop last got (e ∷ es)) ≡ rest_of (read_from stop last other (e ∷ es))
     go i (elements.covers p n m) q =
         ap rest_of (read_covers stop last got e es p n m q) ∙ i p (insert_covered p n m got) (insert_covered p n m other)
@@ -58,9 +58,9 @@ pub read_long : (stop : ℕ) (last : Option ℕ) (got : List ℕ) (es : List Ele
     → length got ≤ length ps
 unfolding read_from
 read_long stop last got [] ps s z e = apart cc
-read_long stop last got (x ∷ es) ps s z e = go (λ p g. read_long stop (some p) g es ps s z) (said last x.bytes) refl
+read_long stop last got (x ∷ es) ps s z e = go (λ p g. read_long stop (Some p) g es ps s z) (said last x.bytes) refl
   where
-    go : ((p : ℕ) (g : List ℕ) → read_from stop (some p) g es ≡ block ps s z → length g ≤ length ps) → (y : elements.Said) → said last x.bytes ≡ y
+    go : ((p : ℕ) (g : List ℕ) → read_from stop (Some p) g es ≡ block ps s z → length g ≤ length ps) → (y : elements.Said) → said last x.bytes ≡ y
         → length got ≤ length ps
     go i (elements.covers p n m) q =
         let k = i p (insert_covered p n m got) (sym (read_covers stop last got x es p n m q) ∙ e) in
@@ -69,13 +69,13 @@ read_long stop last got (x ∷ es) ps s z e = go (λ p g. read_long stop (some p
     go i elements.wrong q = let f : wrong_at x.at ≡ block ps s z = sym (read_wrong stop last got x es q) ∙ e in apart cc
 
 -- ---- by steps
-below_of_lem : (last : Option ℕ) → ((p : ℕ) → last ≡ some p → p < prefixes) → Below last
-below_of_lem none k = tt
-below_of_lem (some p) k = k p refl
+below_of_lem : (last : Option ℕ) → ((p : ℕ) → last ≡ Some p → p < prefixes) → Below last
+below_of_lem None k = tt
+below_of_lem (Some p) k = k p refl
 
-pub below_known : (last : Option ℕ) → Below last → (p : ℕ) → last ≡ some p → p < prefixes
-below_known none b p e = apart cc
-below_known (some q) b p e = let f : q ≡ p = cc in omega arith
+pub below_known : (last : Option ℕ) → Below last → (p : ℕ) → last ≡ Some p → p < prefixes
+below_known None b p e = apart cc
+below_known (Some q) b p e = let f : q ≡ p = cc in omega arith
 
 -- the end from here is the end from the start
 pub record Resting (s : List ℕ) (from c : Cursor) : Type 0 where
@@ -106,7 +106,7 @@ module _ (s : List ℕ) (from c : Cursor) (v : Resting s from c) (r : Step) (e :
     resting_on =
         record {
           known = ahead.low.known;
-          same = rest_any (length s) (some p) [] (insert_covered p n m []) (elements_from next.at (drop next.at s)) ∙ rest_is (Step.Covers p n m next) q;
+          same = rest_any (length s) (Some p) [] (insert_covered p n m []) (elements_from next.at (drop next.at s)) ∙ rest_is (Step.Covers p n m next) q;
         }
 
 -- ---- what is found
@@ -124,5 +124,5 @@ module _ (r end : Rest) (er : r ≡ end) (t : Option ℕ) (b : Block) where
     pub over_many : (w : Twice) → paper_twice w ≡ t → w ≡ twice.Nothing → b ≡ bare_for (found.Whole stamp place) true → b ≡ over_for t end
     over_many w ew e d = over_purge (paper_twice w) ew (d ∙ ap (λ (x : Twice). many_for (paper_twice x) stamp place) (sym e))
 
-    pub over_known : (again : ℕ) → some again ≡ t → b ≡ bare_for (found.Twice again) false → b ≡ over_for t end
-    over_known again e d = over_purge (some again) e d
+    pub over_known : (again : ℕ) → Some again ≡ t → b ≡ bare_for (found.Twice again) false → b ≡ over_for t end
+    over_known again e d = over_purge (Some again) e d

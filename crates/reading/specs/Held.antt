@@ -1,6 +1,6 @@
 -- Serves the code: what its types mean, the answers of reading a block. Each answer is one of these values and no other.
 use Rattle.std.specs.Prelude.{ℕ, List, [], Bool, true, false, cond, length, leb}
-use Rattle.std.proofs.Math.Option.{Option, none, some}
+use Rattle.std.specs.Prelude.{Option, None, Some}
 use Rattle.refusal.specs.Answer.{Answer, ok, no, paper_refusal}
 use Rattle.calendar.specs.declared.Stamp.{Stamp}
 use Rattle.codes.specs.Places.{capacity}
@@ -21,8 +21,8 @@ abbrev pub bare_for : Found → Bool → Block
 bare_for found over = record { found = found; over = over; places = places_for [] }
 
 abbrev pub whole_for : Option ℕ → Stamp → ℕ → List ℕ → Block
-whole_for none s at ps = cond (leb (length ps) capacity) (record { found = Whole s at; over = false; places = places_for ps }) (bare_for (Whole s at) true)
-whole_for (some again) s at ps = bare_for (Twice again) false
+whole_for None s at ps = cond (leb (length ps) capacity) (record { found = Whole s at; over = false; places = places_for ps }) (bare_for (Whole s at) true)
+whole_for (Some again) s at ps = bare_for (Twice again) false
 
 abbrev pub block_for : Option ℕ → codes.Read → Block
 block_for twice (codes.block ps s at) = whole_for twice s at ps

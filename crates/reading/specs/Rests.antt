@@ -1,6 +1,6 @@
 -- Serves the code: what the functions of this crate say to each other of the rest of a block, of which no place is kept. Nothing outside the crate builds on it.
 use Rattle.std.specs.Prelude.{ℕ, ◌<◌, ◌≡◌, List, [], true, false, length, drop}
-use Rattle.std.proofs.Math.Option.{Option, none, some}
+use Rattle.std.specs.Prelude.{Option, None, Some}
 use Rattle.calendar.specs.declared.Stamp.{Stamp}
 use Rattle.codes.specs.Places.{prefixes}
 use Rattle.codes.specs.Elements.{elements_from}
@@ -15,7 +15,7 @@ use Rattle.reading.specs.declared.Block.{Block}
 
 -- the last prefix, if there is one, is a prefix
 pub record Known (c : Cursor) : Type 0 where
-  pub low : (p : ℕ) → paper_last c.last ≡ some p → p < prefixes
+  pub low : (p : ℕ) → paper_last c.last ≡ Some p → p < prefixes
 
 -- read from the reading place on
 abbrev pub read_on : List ℕ → Cursor → Read
@@ -28,8 +28,8 @@ rest_of (wrong_at place) = rest.Wrong place
 
 -- a block of which no place is kept: where it ends, and the element that covers a place already covered; if there is none, the places are more than 120
 abbrev pub many_for : Option ℕ → Stamp → ℕ → Block
-many_for none s at = bare_for (found.Whole s at) true
-many_for (some again) s at = bare_for (found.Twice again) false
+many_for None s at = bare_for (found.Whole s at) true
+many_for (Some again) s at = bare_for (found.Twice again) false
 
 abbrev pub over_for : Option ℕ → Rest → Block
 over_for twice (rest.Purge s at) = many_for twice s at

@@ -2,7 +2,7 @@
 #![tactic(auto)]
 
 ghost use Rattle.std.specs.Prelude.{◌≡◌, []};
-ghost use Rattle.std.proofs.Math.Option.{some};
+ghost use Rattle.std.specs.Prelude.{Some};
 ghost use Rattle.codes.specs.Block.{read_block, twice_at};
 ghost use Rattle.sets.specs.Held.{Good, places_for};
 ghost use Rattle.reading.specs.Placed.{placed_at};
@@ -117,7 +117,7 @@ fn found_over(text: &[u8], at: usize, from: Cursor) -> Block
 // A block whose element at `again` covers a place already covered, and of which `from` is the rest.
 fn found_twice(text: &[u8], again: usize, from: Cursor) -> Block
     requires { Known from }
-    ensures { result ≡ over_for (some again) (rest_of (read_on text.now from)) }
+    ensures { result ≡ over_for (Some again) (rest_of (read_on text.now from)) }
 {
     let rest = rest_of(text, from);
     match rest {

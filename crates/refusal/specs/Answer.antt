@@ -1,6 +1,6 @@
 -- What document 01 says of a call's answer: it is accepted with its values, or it is refused with a number and a place.
 use Rattle.std.specs.Prelude.{ℕ, Bool, cond}
-use Rattle.std.proofs.Math.Option.{Option, none, some}
+use Rattle.std.specs.Prelude.{Option, None, Some}
 use Rattle.refusal.specs.Numbers.{Reason, number_of}
 use Rattle.refusal.specs.declared.Refusal.{Refusal}
 use Rattle.refusal.specs.declared.Verdict.{Verdict}
@@ -16,8 +16,8 @@ refused reason place = no (number_of reason) place
 
 -- refused at the place where the fault is, if there is one
 abbrev pub refused_at : Reason → Option ℕ → Answer Unit
-refused_at reason none = ok tt
-refused_at reason (some place) = refused reason place
+refused_at reason None = ok tt
+refused_at reason (Some place) = refused reason place
 
 -- a test that must hold
 abbrev pub must : Bool → Reason → ℕ → Answer Unit

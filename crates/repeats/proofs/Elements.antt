@@ -4,7 +4,7 @@ use native.Mathlib.Omega.{arith}
 use mathlib.Core.Path.{◌≡◌, refl, sym, ap, ◌∙◌}
 use mathlib.Core.List.{List, [], ◌∷◌}
 use mathlib.Core.Bool.{Bool, true, false, cond, ◌&&◌}
-use mathlib.Core.Option.{Option, none, some}
+use Rattle.std.specs.Prelude.{Option, None, Some}
 use lib.ListN.{length, drop}
 use lib.Dec.{leb, ltb}
 use borrow.Author.Tests.{le-leb, lt-leb, lt-ltb, le-ltb}
@@ -49,7 +49,7 @@ module _ (these : ℕ → Bool) (before : List Stretch) (x : Covering) (xs : Lis
   abbrev repeats : Bool
   repeats = these x.prefix && covered_before (stretch x) before
 
-  pub first_here : repeats ≡ true → first_twice these before (x ∷ xs) ≡ some x.at
+  pub first_here : repeats ≡ true → first_twice these before (x ∷ xs) ≡ Some x.at
   unfolding first_twice
   first_here e = rw e
 
@@ -111,7 +111,7 @@ Seeks text at c v before these = first_twice these before (rest text c v) ≡ fi
 
 module _ (text : List ℕ) (at : ℕ) (c : Cursor) (v : Reading text c) (before : List Stretch) (these : ℕ → Bool)
     (s : Seeks text at c v before these) where
-  pub seeks_none : rest text c v ≡ [] → none ≡ first_twice these [] (coverings text at)
+  pub seeks_none : rest text c v ≡ [] → None ≡ first_twice these [] (coverings text at)
   unfolding first_twice
   seeks_none z = sym (ap (first_twice these before) z) ∙ s
 
@@ -119,7 +119,7 @@ module _ (text : List ℕ) (at : ℕ) (c : Cursor) (v : Reading text c) (before 
     abbrev that : Stretch
     that = stretch_of p n m
 
-    pub seeks_here : (these p && covered_before that before) ≡ true → some c.at ≡ first_twice these [] (coverings text at)
+    pub seeks_here : (these p && covered_before that before) ≡ true → Some c.at ≡ first_twice these [] (coverings text at)
     seeks_here t = sym (ap (first_twice these before) (rest_covers text c v p n m next e) ∙ first_here these before (covering c.at p n m) _ t) ∙ s
 
     pub seeks_on : (these p && covered_before that before) ≡ false → Seeks text at (cursor_behind p next) (reading_on text c v p n m next e) (that ∷ before) these
@@ -160,7 +160,7 @@ module _ (these : ℕ → Bool) (all : (p : ℕ) → p < prefixes → these p �
   unfolding first_twice
   first_from zero before c b h = rw (coverings_none text c, twice_step text before c) (by_step (step_at text c) refl)
     where
-      by_step : (y : Step) → step_at text c ≡ y → none ≡ twice_then text c.at before y
+      by_step : (y : Step) → step_at text c ≡ y → None ≡ twice_then text c.at before y
       by_step (Covers p n m next) e = let a = step_ahead text c p n m next b e in impossible (omega (arith, a.inside))
       by_step (Purge t place) e = refl
       by_step (Wrong place) e = refl
@@ -174,7 +174,7 @@ module _ (these : ℕ → Bool) (all : (p : ℕ) → p < prefixes → these p �
           let a : Ahead text c p n m next = step_ahead text c p n m next b e in
           let s : Stretch = stretch_of p n m in
           rw (coverings_step k text c (Covers p n m next) e, all p a.low.known)
-          (ap (λ (x : Option ℕ). cond (covered_before s before) (some c.at) x)
+          (ap (λ (x : Option ℕ). cond (covered_before s before) (Some c.at) x)
           (more (s ∷ before) (cursor_behind p next) a.low.known (omega (arith, a.more))))
       by_step (Purge t place) e more = rw (coverings_step k text c (Purge t place) e)
       by_step (Wrong place) e more = rw (coverings_step k text c (Wrong place) e)

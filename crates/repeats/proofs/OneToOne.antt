@@ -1,7 +1,7 @@
 -- What the paper says of an answer is said of no other. Assumes nothing.
 use Prim.Native.Nat.{ℕ}
 use mathlib.Core.Path.{◌≡◌, refl, ap}
-use mathlib.Core.Option.{Option}
+use Rattle.std.specs.Prelude.{Option}
 use Rattle.laws.proofs.Tests.{apart}
 use Rattle.repeats.specs.Passes.{paper_twice}
 use Rattle.repeats.specs.declared.Twice.{Twice}

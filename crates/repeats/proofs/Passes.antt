@@ -4,7 +4,7 @@ use native.Mathlib.Omega.{arith}
 use mathlib.Core.Path.{◌≡◌, refl, sym, ap, ap₂, ◌∙◌}
 use mathlib.Core.List.{List, [], ◌∷◌}
 use mathlib.Core.Bool.{Bool, false, ◌&&◌, ◌||◌, and-false}
-use mathlib.Core.Option.{Option, none, some}
+use Rattle.std.specs.Prelude.{Option, None, Some}
 use borrow.Author.Tests.{le-leb, lt-leb, lt-ltb, le-ltb}
 use Rattle.laws.proofs.Tests.{by, by_order, apart}
 use Rattle.codes.specs.Places.{prefixes}
@@ -16,37 +16,37 @@ use Rattle.repeats.specs.declared.Twice.TheVariants.{At, Nothing}
 use Rattle.repeats.proofs.Elements.{Ordered, ordered_cons, coverings_ordered, first_here, first_on, first_all}
 
 -- ---- the earlier of two places
-front : (x : ℕ) (b : Option ℕ) → ((y : ℕ) → b ≡ some y → x ≤ y) → some x ≡ earlier (some x) b
-front x none h = refl
-front x (some y) h = rw (le-leb x y (h y refl))
+front : (x : ℕ) (b : Option ℕ) → ((y : ℕ) → b ≡ Some y → x ≤ y) → Some x ≡ earlier (Some x) b
+front x None h = refl
+front x (Some y) h = rw (le-leb x y (h y refl))
 
-back : (x : ℕ) (a : Option ℕ) → ((y : ℕ) → a ≡ some y → x ≤ y) → some x ≡ earlier a (some x)
-back x none h = refl
-back x (some y) h =
-    by_order x y (λ k. rw (lt-leb y x k)) (λ k. let e : x ≡ y = omega (arith, h y refl) in rw (le-leb y x k) (ap some e))
+back : (x : ℕ) (a : Option ℕ) → ((y : ℕ) → a ≡ Some y → x ≤ y) → Some x ≡ earlier a (Some x)
+back x None h = refl
+back x (Some y) h =
+    by_order x y (λ k. rw (lt-leb y x k)) (λ k. let e : x ≡ y = omega (arith, h y refl) in rw (le-leb y x k) (ap Some e))
 
-pub first_alone : (a b : Twice) (x : ℕ) → a ≡ At x → b ≡ Nothing → some x ≡ earlier (paper_twice a) (paper_twice b)
+pub first_alone : (a b : Twice) (x : ℕ) → a ≡ At x → b ≡ Nothing → Some x ≡ earlier (paper_twice a) (paper_twice b)
 first_alone a b x e q = rw (e, q)
 
-pub first_front : (a b : Twice) (x y : ℕ) → a ≡ At x → b ≡ At y → x ≤ y → some x ≡ earlier (paper_twice a) (paper_twice b)
+pub first_front : (a b : Twice) (x y : ℕ) → a ≡ At x → b ≡ At y → x ≤ y → Some x ≡ earlier (paper_twice a) (paper_twice b)
 first_front a b x y e q h = rw (e, q, le-leb x y h)
 
-pub first_back : (a b : Twice) (x y : ℕ) → a ≡ At x → b ≡ At y → y < x → some y ≡ earlier (paper_twice a) (paper_twice b)
+pub first_back : (a b : Twice) (x y : ℕ) → a ≡ At x → b ≡ At y → y < x → Some y ≡ earlier (paper_twice a) (paper_twice b)
 first_back a b x y e q h = rw (e, q, lt-leb x y h)
 
 -- ---- two sets of prefixes
 -- what is found does not stand before the elements
 later : (these : ℕ → Bool) (at : ℕ) (before : List Stretch) (xs : List Covering) → Ordered at xs
-    → (y : ℕ) → first_twice these before xs ≡ some y → at ≤ y
+    → (y : ℕ) → first_twice these before xs ≡ Some y → at ≤ y
 unfolding first_twice
 later these at before [] o y e = apart cc
 later these at before (x ∷ xs) (ordered_cons _ _ l w o) y e =
     by (these x.prefix && covered_before (stretch x) before)
-    (λ t. let f : some x.at ≡ some y = sym (first_here these before x xs t) ∙ e in let g : x.at ≡ y = cc in omega arith)
+    (λ t. let f : Some x.at ≡ Some y = sym (first_here these before x xs t) ∙ e in let g : x.at ≡ y = cc in omega arith)
     λ t. let h = later these x.at (stretch x ∷ before) xs o y (sym (first_on these before x xs t) ∙ e) in omega arith
 
 first_after : (these : ℕ → Bool) (at : ℕ) (before : List Stretch) (x : Covering) (xs : List Covering) → Ordered at (x ∷ xs)
-    → (y : ℕ) → first_twice these before (x ∷ xs) ≡ some y → x.at ≤ y
+    → (y : ℕ) → first_twice these before (x ∷ xs) ≡ Some y → x.at ≤ y
 first_after these at before x xs (ordered_cons _ _ l w o) = later these x.at before (x ∷ xs) (ordered_cons x.at x (omega arith) w o)
 
 module _ (f g both : ℕ → Bool) (joined : (p : ℕ) → both p ≡ (f p || g p)) where
@@ -87,7 +87,7 @@ joined low next p h =
 pub record Asked (text : List ℕ) (at low : ℕ) (best : Twice) : Type 0 where
   pub so_far : paper_twice best ≡ first_twice (from_up_to 0 low) [] (coverings text at)
 
-pub asked_start : (text : List ℕ) (at lowest : ℕ) → none ≡ first_twice (from_up_to 0 lowest) [] (coverings text at) → Asked text at lowest Nothing
+pub asked_start : (text : List ℕ) (at lowest : ℕ) → None ≡ first_twice (from_up_to 0 lowest) [] (coverings text at) → Asked text at lowest Nothing
 asked_start text at lowest e = record { so_far = e }
 
 module _ (text : List ℕ) (at low : ℕ) (best : Twice) (v : Asked text at low best) where

@@ -4,7 +4,7 @@ use native.Mathlib.Omega.{arith}
 use mathlib.Core.Path.{◌≡◌, refl, sym, ◌∙◌}
 use mathlib.Core.List.{List, [], ◌∷◌}
 use mathlib.Core.Bool.{Bool, true, false, cond, ◌&&◌, and-false}
-use mathlib.Core.Option.{none, some}
+use Rattle.std.specs.Prelude.{None, Some}
 use lib.ListN.{length, replicate, length-replicate, get_or-replicate}
 use lib.Dec.{leb, ltb}
 use lib.Pow.{shr_le}
@@ -195,13 +195,13 @@ module _ (text : List ℕ) (at low : ℕ) (c : Cursor) (next : ℕ) (marks : Lis
   passing_from = v.from
 
   module _ (y : Step) (e : y ≡ step_at text c) where
-    seeks_nothing : rest text c v.reading ≡ [] → none ≡ first_twice (from_up_to low next) [] (coverings text at)
+    seeks_nothing : rest text c v.reading ≡ [] → None ≡ first_twice (from_up_to low next) [] (coverings text at)
     seeks_nothing z = seeks_none text at c v.reading v.before (from_up_to low next) (v.same next v.from (omega arith)) z
 
-    pub passing_purge : (t : Stamp) (place : ℕ) → y ≡ Step.Purge t place → none ≡ first_twice (from_up_to low next) [] (coverings text at)
+    pub passing_purge : (t : Stamp) (place : ℕ) → y ≡ Step.Purge t place → None ≡ first_twice (from_up_to low next) [] (coverings text at)
     passing_purge t place q = seeks_nothing (rest_purge text c v.reading t place (sym q ∙ e))
 
-    pub passing_wrong : (place : ℕ) → y ≡ Step.Wrong place → none ≡ first_twice (from_up_to low next) [] (coverings text at)
+    pub passing_wrong : (place : ℕ) → y ≡ Step.Wrong place → None ≡ first_twice (from_up_to low next) [] (coverings text at)
     passing_wrong place q = seeks_nothing (rest_wrong text c v.reading place (sym q ∙ e))
 
     module _ (p n m : ℕ) (past : Cursor) (q : y ≡ Step.Covers p n m past) where
@@ -218,7 +218,7 @@ module _ (text : List ℕ) (at low : ℕ) (c : Cursor) (next : ℕ) (marks : Lis
         this_met : Met low p n m v.before after hit
         this_met = met low p n m passing_low v.before marks v.marked after hit r v.some_each
 
-        pub passing_hit : hit ≡ true → some c.at ≡ first_twice (from_up_to low (low + window)) [] (coverings text at)
+        pub passing_hit : hit ≡ true → Some c.at ≡ first_twice (from_up_to low (low + window)) [] (coverings text at)
         passing_hit t =
             seeks_here text at c v.reading v.before (from_up_to low (low + window)) (v.same (low + window) (omega arith) v.from)
             p n m past (sym q ∙ e) (this_met.again t)

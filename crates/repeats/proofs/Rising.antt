@@ -4,7 +4,7 @@ use native.Mathlib.Omega.{arith}
 use mathlib.Core.Path.{◌≡◌, refl, sym, ap, ◌∙◌}
 use mathlib.Core.List.{List, [], ◌∷◌}
 use mathlib.Core.Bool.{Bool, true, false, ◌&&◌, ◌||◌, and-true, and-false, and_assoc}
-use mathlib.Core.Option.{none}
+use Rattle.std.specs.Prelude.{None}
 use lib.ListN.{length}
 use lib.Dec.{leb, ltb}
 use borrow.Author.Tests.{lt-leb, leb-true, ltb-true, le-ltb}
@@ -50,7 +50,7 @@ not_covered way edge a [] e all_nil = refl
 not_covered way edge a (b ∷ bs) e (all_cons l ls) = rw (not_shared way edge a b e l) (not_covered way edge a bs e ls)
 
 onward_first : (way : Way) (edge at : ℕ) (before : List Stretch) (xs : List Covering) → All (Passed way edge) before → Ordered at xs
-    → onward way edge xs ≡ true → none ≡ first_twice (λ p. true) before xs
+    → onward way edge xs ≡ true → None ≡ first_twice (λ p. true) before xs
 unfolding onward first_twice
 onward_first way edge at before [] ls ordered_nil r = refl
 onward_first way edge at before (x ∷ xs) ls (ordered_cons _ _ l w o) r =
@@ -61,12 +61,12 @@ onward_first way edge at before (x ∷ xs) ls (ordered_cons _ _ l w o) r =
     (all_cons (passed_this way a) (all_map (λ b u. passed_more way edge a b (omega (arith, w.order)) here u) ls)) o
     (and_right (beyond way edge a) (onward way (edge_of way a) xs) r))
 
-onward_once : (way : Way) (edge : ℕ) (text : List ℕ) (at : ℕ) → onward way edge (coverings text at) ≡ true → none ≡ twice_at text at
+onward_once : (way : Way) (edge : ℕ) (text : List ℕ) (at : ℕ) → onward way edge (coverings text at) ≡ true → None ≡ twice_at text at
 onward_once way edge text at e =
     onward_first way edge at [] (coverings text at) all_nil (coverings_ordered text at) e ∙ first_all (λ p. true) (λ p h. refl) text at
 
 pub rising_or_falling_once : (text : List ℕ) (at : ℕ) (r f : Bool) → r ≡ rising (coverings text at) → f ≡ falling (coverings text at)
-    → (r || f) ≡ true → none ≡ twice_at text at
+    → (r || f) ≡ true → None ≡ twice_at text at
 rising_or_falling_once text at true f er ef t = onward_once up 0 text at (sym er)
 rising_or_falling_once text at false f er ef t = onward_once down places_end text at (sym ef ∙ t)
 
@@ -107,7 +107,7 @@ module _ (text : List ℕ) (at : ℕ) (c : Cursor) (rises falls : Bool) (high lo
   fall_none : rest text c v.reading ≡ [] → falls ≡ falling (coverings text at)
   fall_none z = onward_none text at c v.reading down places_end falls low v.fall z
 
-  quiet_none : rest text c v.reading ≡ [] → none ≡ first_twice (from_up_to 0 lowest) [] (coverings text at)
+  quiet_none : rest text c v.reading ≡ [] → None ≡ first_twice (from_up_to 0 lowest) [] (coverings text at)
   quiet_none z = seeks_none text at c v.reading v.before (from_up_to 0 lowest) (v.quiet lowest (omega arith)) z
 
   module _ (t : Stamp) (place : ℕ) (q : y ≡ Step.Purge t place) where
@@ -117,7 +117,7 @@ module _ (text : List ℕ) (at : ℕ) (c : Cursor) (rises falls : Bool) (high lo
     pub fall_purge : falls ≡ falling (coverings text at)
     fall_purge = fall_none (rest_purge text c v.reading t place (sym q ∙ e))
 
-    pub quiet_purge : none ≡ first_twice (from_up_to 0 lowest) [] (coverings text at)
+    pub quiet_purge : None ≡ first_twice (from_up_to 0 lowest) [] (coverings text at)
     quiet_purge = quiet_none (rest_purge text c v.reading t place (sym q ∙ e))
 
   module _ (place : ℕ) (q : y ≡ Step.Wrong place) where
@@ -127,7 +127,7 @@ module _ (text : List ℕ) (at : ℕ) (c : Cursor) (rises falls : Bool) (high lo
     pub fall_wrong : falls ≡ falling (coverings text at)
     fall_wrong = fall_none (rest_wrong text c v.reading place (sym q ∙ e))
 
-    pub quiet_wrong : none ≡ first_twice (from_up_to 0 lowest) [] (coverings text at)
+    pub quiet_wrong : None ≡ first_twice (from_up_to 0 lowest) [] (coverings text at)
     quiet_wrong = quiet_none (rest_wrong text c v.reading place (sym q ∙ e))
 
   module _ (p n m : ℕ) (next : Cursor) (q : y ≡ Step.Covers p n m next) where

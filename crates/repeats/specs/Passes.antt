@@ -1,7 +1,7 @@
 -- What the passes over a block say to each other: the first element under some prefixes that covers a place already covered. It serves the code;
 -- document 02 asks for all prefixes.
 use Rattle.std.specs.Prelude.{ℕ, zero, suc, ◌+◌, List, [], ◌∷◌, Bool, true, cond, ◌&&◌, length, leb, ltb}
-use Rattle.std.proofs.Math.Option.{Option, none, some}
+use Rattle.std.specs.Prelude.{Option, None, Some}
 use Rattle.codes.specs.Places.{places_end}
 use Rattle.codes.specs.Block.{Stretch, stretch_of, covered_before}
 use Rattle.codes.specs.Cursor.{step_at}
@@ -13,14 +13,14 @@ use Rattle.repeats.specs.declared.Twice.TheVariants.{At, Nothing}
 
 -- the place of an element, if there is one
 abbrev pub paper_twice : Twice → Option ℕ
-paper_twice (At place) = some place
-paper_twice Nothing = none
+paper_twice (At place) = Some place
+paper_twice Nothing = None
 
 -- the one that comes first in the text
 abbrev pub earlier : Option ℕ → Option ℕ → Option ℕ
-earlier none b = b
-earlier (some x) none = some x
-earlier (some x) (some y) = cond (leb x y) (some x) (some y)
+earlier None b = b
+earlier (Some x) None = Some x
+earlier (Some x) (Some y) = cond (leb x y) (Some x) (Some y)
 
 -- the nearest prefix from `end` on: that of those so far, or this one
 abbrev pub nearest : ℕ → ℕ → ℕ → ℕ
@@ -85,6 +85,6 @@ falling xs = onward down places_end xs
 -- ---- what repeats a place
 -- the first element under one of these prefixes that covers a place already covered
 unfoldable pub first_twice : (ℕ → Bool) → List Stretch → List Covering → Option ℕ
-first_twice these before [] = none
+first_twice these before [] = None
 first_twice these before (x ∷ xs) =
-    cond (these x.prefix && covered_before (stretch x) before) (some x.at) (first_twice these (stretch x ∷ before) xs)
+    cond (these x.prefix && covered_before (stretch x) before) (Some x.at) (first_twice these (stretch x ∷ before) xs)

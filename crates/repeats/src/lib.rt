@@ -2,7 +2,7 @@
 #![tactic(auto)]
 
 ghost use Rattle.std.specs.Prelude.{◌≡◌, not, [], ◌+◌, ◌-◌, ◌*◌, ◌≤◌, ◌<◌, eqb, length, get_or, set};
-ghost use Rattle.std.proofs.Math.Option.{none};
+ghost use Rattle.std.specs.Prelude.{None};
 ghost use Rattle.std.specs.Int.Bits.{bit_and, bit_or};
 ghost use Rattle.codes.specs.Places.{prefixes};
 ghost use Rattle.codes.specs.Serving.{Low};
@@ -189,7 +189,7 @@ fn first_of(a: Twice, b: Twice) -> Twice
 fn survey(text: &[u8], at: usize) -> Outline
     ensures up { result.rises ≡ rising (coverings text.now at) }
     ensures down { result.falls ≡ falling (coverings text.now at) }
-    ensures quiet { none ≡ first_twice (from_up_to 0 result.lowest) [] (coverings text.now at) }
+    ensures quiet { None ≡ first_twice (from_up_to 0 result.lowest) [] (coverings text.now at) }
 {
     let mut seen = Outline {
         rises: true,

@@ -4,7 +4,7 @@ use native.Mathlib.Omega.{arith}
 use mathlib.Core.Path.{◌≡◌, refl, sym, ap, ◌∙◌}
 use mathlib.Core.List.{List, [], ◌∷◌, ◌++◌}
 use mathlib.Core.Bool.{cond, ◌&&◌, and-false}
-use mathlib.Core.Option.{none, some}
+use Rattle.std.specs.Prelude.{None, Some}
 use lib.ListN.{length, get_or, take, drop, length-drop, get_or-eq_default}
 use lib.Seq.{drop-drop, get_or-drop, take_all}
 use lib.Dec.{eqb}
@@ -35,7 +35,7 @@ form_is zero (suc k) (b ∷ s) h = by (eqb b 10) (λ p. let e : b ≡ 10 = eqb-t
 form_is (suc n) (suc k) [] h = rw (ne_eqb 0 (suc n) (omega arith))
 form_is (suc n) (suc k) (b ∷ s) h = by (digit b) (λ d. rw (d, eqb_suc) (form_is n k s (omega arith))) (λ d. rw (d, ne_eqb 0 (suc n) (omega arith)))
 
-length_is : (s : List ℕ) → length_line s ≡ cond (eqb (digits_in_front 10 s) 5 && eqb (get_or s 5 0) 10) (some (decimal 0 (take 5 s))) none
+length_is : (s : List ℕ) → length_line s ≡ cond (eqb (digits_in_front 10 s) 5 && eqb (get_or s 5 0) 10) (Some (decimal 0 (take 5 s))) None
 unfolding length_line
 length_is s = rw (form_is 5 10 s (omega arith))
 
@@ -53,7 +53,7 @@ module _ (s : List ℕ) (at : ℕ) (h : List ℕ) (v : Head s at h) (a : Asked) 
   start_unasked e = rw (← v.is, ← ea, e)
 
   module _ (year month : ℕ) (e : a ≡ asked.Month year month) where
-    wrong : length_line (drop 8 h) ≡ none → paper_opening s Wrong ≡ case_of (drop at s)
+    wrong : length_line (drop 8 h) ≡ None → paper_opening s Wrong ≡ case_of (drop at s)
     unfolding case_of
     wrong z = rw (← v.is, ← ea, e, z)
 
@@ -78,9 +78,9 @@ module _ (s : List ℕ) (at : ℕ) (h : List ℕ) (v : Head s at h) (a : Asked) 
         start_unended z = wrong (length_is (drop 8 h) ∙ rw (get_or-drop 8 h 5 0, ne_eqb (get_or h 13 0) 10 z, and-false))
 
         module _ (z : get_or h 13 0 ≡ 10) where
-          told : length_line (drop 8 h) ≡ some n.value
+          told : length_line (drop 8 h) ≡ Some n.value
           told =
-              length_is (drop 8 h) ∙ rw (get_or-drop 8 h 5 0, eq-eqb (get_or h 13 0) 10 z, five) (ap some (sym at_five))
+              length_is (drop 8 h) ∙ rw (get_or-drop 8 h 5 0, eq-eqb (get_or h 13 0) 10 z, five) (ap Some (sym at_five))
             where
               at_five : n.value ≡ decimal 0 (take 5 (drop 8 h))
               at_five = value ∙ rw five

@@ -4,7 +4,7 @@ use native.Mathlib.Omega.{arith}
 use mathlib.Core.Path.{◌≡◌, refl}
 use mathlib.Core.List.{List, [], ◌∷◌}
 use mathlib.Core.Bool.{Bool, true, false, cond, ◌&&◌}
-use mathlib.Core.Option.{Option, none, some}
+use Rattle.std.specs.Prelude.{Option, None, Some}
 use lib.ListN.{length, get_or, take, drop, length-drop, drop_of_length-le}
 use lib.Seq.{drop-drop}
 use lib.Dec.{eqb}
@@ -18,7 +18,7 @@ use Rattle.replay.specs.declared.Line.{Line}
 use Rattle.replay.specs.declared.Progress.{Progress}
 
 -- ---- which lines are `% n`
-only_is : (ns : List ℕ) (k : ℕ) → 2 ≤ length ns → only_one (take k ns) ≡ cond (eqb k 1) (some (get_or ns 0 0)) none
+only_is : (ns : List ℕ) (k : ℕ) → 2 ≤ length ns → only_one (take k ns) ≡ cond (eqb k 1) (Some (get_or ns 0 0)) None
 only_is [] k h = impossible (omega arith)
 only_is (n ∷ []) k h = impossible (omega arith)
 only_is (n ∷ (m ∷ ns)) zero h = refl
@@ -26,17 +26,17 @@ only_is (n ∷ (m ∷ ns)) (suc zero) h = refl
 only_is (n ∷ (m ∷ ns)) (suc (suc k)) h = rw (ne_eqb (suc (suc k)) 1 (λ e. omega arith))
 
 asked_by : (known : Bool) (kind count : ℕ) (ns : List ℕ) → 2 ≤ length ns
-    → text_asked (cond known (some (record { kind = kind; numbers = take count ns })) none)
-    ≡ cond ((known && eqb kind percent) && eqb count 1) (some (get_or ns 0 0)) none
+    → text_asked (cond known (Some (record { kind = kind; numbers = take count ns })) None)
+    ≡ cond ((known && eqb kind percent) && eqb count 1) (Some (get_or ns 0 0)) None
 unfolding text_asked
 asked_by false kind count ns h = refl
 asked_by true kind count ns h = by (eqb kind percent) (λ p. rw p (only_is ns count h)) (λ p. rw p)
 
 pub asked_is : (l : Line) → length l.numbers ≡ 5
-    → text_asked (paper_line l) ≡ cond ((l.known && eqb l.kind percent) && eqb l.count 1) (some (get_or l.numbers 0 0)) none
+    → text_asked (paper_line l) ≡ cond ((l.known && eqb l.kind percent) && eqb l.count 1) (Some (get_or l.numbers 0 0)) None
 asked_is l e = asked_by l.known l.kind l.count l.numbers (omega arith)
 
-module _ (l : Option CallLine) (n : ℕ) (asks : Bool) (e : text_asked l ≡ cond asks (some n) none) (c : Standing) where
+module _ (l : Option CallLine) (n : ℕ) (asks : Bool) (e : text_asked l ≡ cond asks (Some n) None) (c : Standing) where
   pub line_text : (r : Standing) → asks ≡ true → r ≡ replaced n c → r ≡ after_line l c
   unfolding after_line
   line_text r t q = rw (e, t) q

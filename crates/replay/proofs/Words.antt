@@ -5,7 +5,7 @@ use native.Mathlib.Omega.{arith}
 use mathlib.Core.Path.{◌≡◌, refl, sym, ap, ◌∙◌}
 use mathlib.Core.List.{List, [], ◌∷◌, ◌++◌, append-nil, append_assoc}
 use mathlib.Core.Bool.{Bool, true, false, cond, and-false}
-use mathlib.Core.Option.{Option, none, some}
+use Rattle.std.specs.Prelude.{Option, None, Some}
 use lib.ListN.{length, get_or, take, drop, set, length-append, drop_of_length-le, length-set}
 use lib.Seq.{drop-cons, drop-drop, length-take-le}
 use lib.Dec.{eqb}
@@ -81,7 +81,7 @@ every_no [] w c e = rw e
 every_no (b ∷ d) w c e = rw (every_no d w c e, and-false)
 
 -- ---- a number behind a space
-spaced : (s : List ℕ) → numbers_behind (32 ∷ s) ≡ cond (is_number (line_up_to 32 s)) (onto (decimal 0 (line_up_to 32 s)) (numbers_in (rest s))) none
+spaced : (s : List ℕ) → numbers_behind (32 ∷ s) ≡ cond (is_number (line_up_to 32 s)) (onto (decimal 0 (line_up_to 32 s)) (numbers_in (rest s))) None
 unfolding numbers_behind words behind numbers_in
 spaced s = rw (words_is s)
 
@@ -105,7 +105,7 @@ module _ (s : List ℕ) (p : 0 < digits_in_front most_digits s) where
         λ h. let l : 10 < length (take (digits_in_front 10 s) s ++ (c ∷ w)) = rw (length-append (take (digits_in_front 10 s) s) (c ∷ w), length_front 10 s) (omega arith) in rw (lt-leb _ 10 l, and-false)
 
   goes : (t : List ℕ) → drop (digits_in_front most_digits s) s ≡ t
-      → cond (is_number (take (digits_in_front most_digits s) s ++ line_up_to 32 t)) (onto (decimal 0 (take (digits_in_front most_digits s) s ++ line_up_to 32 t)) (numbers_in (rest t))) none
+      → cond (is_number (take (digits_in_front most_digits s) s ++ line_up_to 32 t)) (onto (decimal 0 (take (digits_in_front most_digits s) s ++ line_up_to 32 t)) (numbers_in (rest t))) None
       ≡ onto (decimal 0 (take (digits_in_front most_digits s) s)) (behind (line_up_to 32 t ∷ rest t))
   unfolding line_up_to behind onto
   goes [] e = rw (append-nil (take (digits_in_front 10 s) s), whole)
@@ -125,22 +125,22 @@ no_word (b ∷ s) e = by (eqb b 32) (λ p. rw p) (λ p. rw (p, no_digit, and-fal
     no_digit : digit b ≡ false
     no_digit = by (digit b) (λ d. let z : suc (digits_in_front 9 s) ≡ 0 = rw d at e in let no : ⊥ = omega arith in absurd no) (λ d. d)
 
-numbers_none : (s : List ℕ) → digits_in_front most_digits s ≡ 0 → numbers_behind (32 ∷ s) ≡ none
+numbers_none : (s : List ℕ) → digits_in_front most_digits s ≡ 0 → numbers_behind (32 ∷ s) ≡ None
 numbers_none s e = spaced s ∙ rw (no_word s e)
 
-numbers_wrong : (b : ℕ) (s : List ℕ) → (b ≡ 32 → ⊥) → numbers_behind (b ∷ s) ≡ none
+numbers_wrong : (b : ℕ) (s : List ℕ) → (b ≡ 32 → ⊥) → numbers_behind (b ∷ s) ≡ None
 unfolding numbers_behind words behind
 numbers_wrong b s n = rw (ne_eqb b 32 n, words_is s)
 
 -- ---- the loop: these numbers are read, and the line goes on at `at`
 unfoldable pub joined : List ℕ → Option (List ℕ) → Option (List ℕ)
-joined d none = none
-joined d (some ns) = some (d ++ ns)
+joined d None = None
+joined d (Some ns) = Some (d ++ ns)
 
 joined_on : (d : List ℕ) (v : ℕ) (o : Option (List ℕ)) → joined d (onto v o) ≡ joined (d ++ (v ∷ [])) o
 unfolding joined onto
-joined_on d v none = refl
-joined_on d v (some ns) = rw (append_assoc d (v ∷ []) ns)
+joined_on d v None = refl
+joined_on d v (Some ns) = rw (append_assoc d (v ∷ []) ns)
 
 pub record Spells (line numbers : List ℕ) (count at : ℕ) : Type 0 where
   pub most : count ≤ 5
@@ -151,8 +151,8 @@ pub record Spells (line numbers : List ℕ) (count at : ℕ) : Type 0 where
 
 joined_nil : (o : Option (List ℕ)) → o ≡ joined [] o
 unfolding joined
-joined_nil none = refl
-joined_nil (some ns) = refl
+joined_nil None = refl
+joined_nil (Some ns) = refl
 
 pub spells_start : (line numbers : List ℕ) → length numbers ≡ 5 → (length line ≡ 0 → ⊥) → Spells line numbers 0 1
 spells_start line numbers e n = record { most = omega arith; long = e; low = omega arith; high = by_order 0 (length line) (λ h. omega arith) (λ h. absurd (n (omega arith))); is = joined_nil _ }
@@ -168,7 +168,7 @@ spells_empty [] r e f = rw f
 spells_empty (b ∷ s) r e f = let no : ⊥ = omega arith in absurd no
 
 module _ (line numbers : List ℕ) (count at : ℕ) (v : Spells line numbers count at) where
-  nothing : (r : Line) → r.known ≡ false → called (get_or line 0 0) (numbers_behind (drop 1 line)) ≡ none → paper_line r ≡ call_line line
+  nothing : (r : Line) → r.known ≡ false → called (get_or line 0 0) (numbers_behind (drop 1 line)) ≡ None → paper_line r ≡ call_line line
   nothing r f e = rw (f, call_is line (omega (arith, v.low, v.high)), e)
 
   pub spells_done : length line ≤ at → paper_line (record { known = true; kind = get_or line 0 0; count = count; numbers = numbers }) ≡ call_line line
@@ -189,11 +189,11 @@ module _ (line numbers : List ℕ) (count at : ℕ) (v : Spells line numbers cou
       space : drop at line ≡ 32 ∷ drop (at + 1) line
       space = rw (← e) here
 
-      too_many : (d : List ℕ) (o : Option (List ℕ)) (n k : ℕ) (t : Bool) → length d ≡ 5 → called k (joined d (cond t (onto n o) none)) ≡ none
+      too_many : (d : List ℕ) (o : Option (List ℕ)) (n k : ℕ) (t : Bool) → length d ≡ 5 → called k (joined d (cond t (onto n o) None)) ≡ None
       unfolding joined called onto
       too_many d o n k false l = refl
-      too_many d none n k true l = refl
-      too_many d (some ns) n k true l = rw (lt-leb (length (d ++ (n ∷ ns))) 5 (rw (length-append d (n ∷ ns), l) (omega arith)))
+      too_many d None n k true l = refl
+      too_many d (Some ns) n k true l = rw (lt-leb (length (d ++ (n ∷ ns))) 5 (rw (length-append d (n ∷ ns), l) (omega arith)))
 
       pub spells_many : (r : Line) → count ≡ 5 → r.known ≡ false → paper_line r ≡ call_line line
       spells_many r m f =

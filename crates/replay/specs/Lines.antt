@@ -1,6 +1,6 @@
 -- The input of the replay program: cases, each of two lines, a bulletin and call lines.
 use Rattle.std.specs.Prelude.{ℕ, zero, suc, ◌+◌, ◌-◌, ◌*◌, ◌%◌, ◌≤◌, ◌<◌, List, [], ◌∷◌, ◌++◌, Bool, cond, ◌&&◌, length, take, drop, eqb, leb, ltb}
-use Rattle.std.proofs.Math.Option.{Option, none, some}
+use Rattle.std.specs.Prelude.{Option, None, Some}
 use Rattle.laws.specs.Lists.{every}
 use Rattle.lines.specs.Bytes.{Kind, digit, word, begins}
 use Rattle.lines.specs.Lines.{glue}
@@ -32,18 +32,18 @@ words [] = [] ∷ []
 words (b ∷ s) = cond (eqb b 32) ([] ∷ words s) (glue b (words s))
 
 unfoldable pub onto : ℕ → Option (List ℕ) → Option (List ℕ)
-onto n none = none
-onto n (some ns) = some (n ∷ ns)
+onto n None = None
+onto n (Some ns) = Some (n ∷ ns)
 
 unfoldable pub numbers_in : List (List ℕ) → Option (List ℕ)
-numbers_in [] = some []
-numbers_in (w ∷ ws) = cond (is_number w) (onto (decimal 0 w) (numbers_in ws)) none
+numbers_in [] = Some []
+numbers_in (w ∷ ws) = cond (is_number w) (onto (decimal 0 w) (numbers_in ws)) None
 
 -- ---- call lines: a byte, and behind it numbers with a space before each
 unfoldable pub behind : List (List ℕ) → Option (List ℕ)
-behind [] = none
+behind [] = None
 behind ([] ∷ ws) = numbers_in ws
-behind ((b ∷ w) ∷ ws) = none
+behind ((b ∷ w) ∷ ws) = None
 
 unfoldable pub numbers_behind : List ℕ → Option (List ℕ)
 numbers_behind s = behind (words s)
@@ -57,11 +57,11 @@ abbrev pub most_numbers : ℕ
 most_numbers = 5
 
 unfoldable pub called : ℕ → Option (List ℕ) → Option CallLine
-called k none = none
-called k (some ns) = cond (leb (length ns) most_numbers) (some (record { kind = k; numbers = ns })) none
+called k None = None
+called k (Some ns) = cond (leb (length ns) most_numbers) (Some (record { kind = k; numbers = ns })) None
 
 unfoldable pub call_line : List ℕ → Option CallLine
-call_line [] = none
+call_line [] = None
 call_line (k ∷ s) = called k (numbers_behind s)
 
 -- "each ended by LF": the bytes before the next LF, or all of them
@@ -75,7 +75,7 @@ abbrev pub length_form : List Kind
 length_form = times 5 digit ++ word "\n"
 
 unfoldable pub length_line : List ℕ → Option ℕ
-length_line s = cond (begins length_form s) (some (decimal 0 (take 5 s))) none
+length_line s = cond (begins length_form s) (Some (decimal 0 (take 5 s))) None
 
 -- what a case is made of: the time, the bulletin, and the input behind it
 pub record Start : Type 0 where
@@ -86,9 +86,9 @@ pub record Start : Type 0 where
 
 -- "A first line or a length line of another form, or fewer than NNNNN bytes after it": none
 abbrev pub starting : Option YearMonth → Option ℕ → List ℕ → Option Start
-starting none o s = none
-starting (some t) none s = none
-starting (some t) (some n) s = cond (leb n (length s)) (some (record { year = t.year; month = t.month; bulletin = take n s; rest = drop n s })) none
+starting None o s = None
+starting (Some t) None s = None
+starting (Some t) (Some n) s = cond (leb n (length s)) (Some (record { year = t.year; month = t.month; bulletin = take n s; rest = drop n s })) None
 
 unfoldable pub case_of : List ℕ → Option Start
 case_of s = starting (asked_of s) (length_line (drop 8 s)) (drop 14 s)
@@ -122,21 +122,21 @@ replaced n c = standing_after c (following most_text n c.rest)
 
 -- the n of a line `% n`
 abbrev pub only_one : List ℕ → Option ℕ
-only_one [] = none
-only_one (n ∷ []) = some n
-only_one (n ∷ (m ∷ ns)) = none
+only_one [] = None
+only_one (n ∷ []) = Some n
+only_one (n ∷ (m ∷ ns)) = None
 
 abbrev pub percent : ℕ
 percent = 37
 
 unfoldable pub text_asked : Option CallLine → Option ℕ
-text_asked none = none
-text_asked (some l) = cond (eqb l.kind percent) (only_one l.numbers) none
+text_asked None = None
+text_asked (Some l) = cond (eqb l.kind percent) (only_one l.numbers) None
 
 -- what the case goes on with after a line: no other line takes of the input behind it
 abbrev pub after_asked : Option ℕ → Standing → Standing
-after_asked none c = c
-after_asked (some n) c = replaced n c
+after_asked None c = c
+after_asked (Some n) c = replaced n c
 
 unfoldable pub after_line : Option CallLine → Standing → Standing
 after_line l c = after_asked (text_asked l) c
@@ -158,11 +158,11 @@ number_from s from =
     record { value = decimal 0 (take (digits_in_front most_digits (drop from s)) (drop from s)); end = from + digits_in_front most_digits (drop from s) }
 
 abbrev pub paper_line : Line → Option CallLine
-paper_line l = cond l.known (some (record { kind = l.kind; numbers = take l.count l.numbers })) none
+paper_line l = cond l.known (Some (record { kind = l.kind; numbers = take l.count l.numbers })) None
 
 abbrev pub paper_opening : List ℕ → Opening → Option Start
-paper_opening s (Case c) = some (record { year = c.year; month = c.month; bulletin = part s c.start c.end; rest = drop c.end s })
-paper_opening s Wrong = none
+paper_opening s (Case c) = Some (record { year = c.year; month = c.month; bulletin = part s c.start c.end; rest = drop c.end s })
+paper_opening s Wrong = None
 
 -- the case's call lines start behind `at`, and not behind the input's end
 abbrev pub lines_within : ℕ → ℕ → Opening → Type 0

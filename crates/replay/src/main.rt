@@ -2,7 +2,7 @@
 #![tactic(auto)]
 
 ghost use Rattle.std.specs.Prelude.{◌≡◌, false, cond, ◌+◌, ◌*◌, ◌≤◌, ◌<◌, length, get_or, drop, IfOk};
-ghost use Rattle.std.proofs.Math.Option.{none, some};
+ghost use Rattle.std.specs.Prelude.{None, Some};
 ghost use Rattle.lines.specs.Bytes.{lf};
 ghost use Rattle.replay.specs.Lines.{call_line, line_up_to, case_of, number_from, paper_line, paper_opening, lines_within};
 ghost use Rattle.replay.specs.Lines.{weighted_sum, text_asked, replaced, after_line, paper_progress, Onward};
@@ -520,7 +520,7 @@ struct Progress {
 
 // Whether a line is `% n`.
 fn asks_text(line: Line) -> bool
-    ensures { text_asked (paper_line line) ≡ cond result (some (get_or line.numbers 0 0)) none }
+    ensures { text_asked (paper_line line) ≡ cond result (Some (get_or line.numbers 0 0)) None }
 {
     line.known & (line.kind == b'%') & (line.count == 1)
 }

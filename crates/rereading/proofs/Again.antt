@@ -3,7 +3,7 @@ use Prim.Native.Nat.{ℕ, ◌≤◌}
 use mathlib.Core.Path.{◌≡◌, refl, sym, ap, ap₂, ◌∙◌, subst}
 use mathlib.Core.Bool.{true}
 use mathlib.Core.List.{List, map}
-use mathlib.Core.Option.{some}
+use Rattle.std.specs.Prelude.{Some}
 use lib.ListN.{length, length-map}
 use borrow.Author.Tests.{eq-eqb, le-leb}
 use Rattle.laws.proofs.Lookups.{some_same}
@@ -59,7 +59,7 @@ unfolding fitting
 fitting_is room out h = rw (le-leb (length out) room h)
 
 -- It comes out of a book that has its contents as it is.
-unchanged : (text l : List ℕ) (room : ℕ) (d : Date) (r : Bulletin) → is_sound l ≡ true → date_of (book_of l).issue ≡ some d
+unchanged : (text l : List ℕ) (room : ℕ) (d : Date) (r : Bulletin) → is_sound l ≡ true → date_of (book_of l).issue ≡ Some d
     → read_bulletin text d.year d.month ≡ ok r → Agrees (book_of l) r → map (λ (g : Segment). g.content) r.segments ≡ (book_of l).segments
     → All (InWrittenForm text) r.segments → length text ≤ room → edited_rule text l room ≡ ok text
 unchanged text l room d r good dated e a contents forms fits =
@@ -94,7 +94,7 @@ module _ (text l : List ℕ) (room : ℕ) (out : List ℕ) (y : Bytes l) (e : ed
 
   -- The book that is made of it, under the year and month of this book's issue, has this book's issue and segments, and its segment blocks have
   -- the same bytes.
-  pub output_made : (d : Date) → date_of (book_of l).issue ≡ some d → MadeAgain l out d.year d.month
+  pub output_made : (d : Date) → date_of (book_of l).issue ≡ Some d → MadeAgain l out d.year d.month
   unfolding make_rule and_then
   output_made d dated =
       let w = written_reads text l room out y e most in

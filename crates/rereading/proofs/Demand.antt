@@ -4,7 +4,7 @@ use native.Mathlib.Omega.{arith}
 use mathlib.Core.Path.{◌≡◌, refl, sym, ap, ◌∙◌, subst}
 use mathlib.Core.Bool.{true, ◌&&◌}
 use mathlib.Core.List.{List}
-use mathlib.Core.Option.{Option, some}
+use Rattle.std.specs.Prelude.{Option, Some}
 use lib.ListN.{length}
 use lib.Dec.{eqb, leb}
 use borrow.Author.Tests.{eqb-true, eq-eqb, leb-true, leb-false, ltb-true}
@@ -40,7 +40,7 @@ use Rattle.rereading.proofs.ReadsEdited.{read_written, edited_reads, read_ordere
 
 -- ---- a sound book
 -- its issue has a year and a month
-pub sound_dated : (b : Book) → Sound b → (d : Date) × (date_of b.issue ≡ some d)
+pub sound_dated : (b : Book) → Sound b → (d : Date) × (date_of b.issue ≡ Some d)
 unfolding is_issue
 sound_dated b s =
     let h : b.issue < start_of issue_months = ltb-true b.issue (start_of issue_months) s.year in
@@ -74,7 +74,7 @@ module _ (text : List ℕ) (year month : ℕ) (b : Book) (r : Bulletin) (s : Sou
 
 -- ---- the rule, test by test
 -- the year and month under which the text is read
-read_under_lem : (text : List ℕ) (o : Option Date) (d : Date) → o ≡ some d → read_under text o ≡ read_bulletin text d.year d.month
+read_under_lem : (text : List ℕ) (o : Option Date) (d : Date) → o ≡ Some d → read_under text o ≡ read_bulletin text d.year d.month
 read_under_lem text o d e = ap (read_under text) e
 
 module _ (text l : List ℕ) (room : ℕ) where
@@ -83,7 +83,7 @@ module _ (text l : List ℕ) (room : ℕ) where
 
   -- every test but the last is passed: the edited text, or 23
   pub rule_is : (d : Date) (r : Bulletin) (blocks : List (List ℕ)) → (is_length text && eqb (length l) book_length) ≡ true → is_sound l ≡ true
-      → date_of (book_of l).issue ≡ some d → read_bulletin text d.year d.month ≡ ok r → belongs (book_of l) r ≡ true
+      → date_of (book_of l).issue ≡ Some d → read_bulletin text d.year d.month ≡ ok r → belongs (book_of l) r ≡ true
       → written_forms (ends_in r.segments) (book_of l).segments ≡ ok blocks → edited_rule text l room ≡ fitting room (edited text r.segments blocks)
   unfolding edited_rule and_then
   rule_is d r blocks a s e f g h = rw (a, s, read_under_lem text _ d e ∙ f, g, h)
@@ -95,7 +95,7 @@ module _ (text l : List ℕ) (room : ℕ) where
       (λ t. rw t (written_out out w (leb-true (length out) room t)))
       (λ t. rw t (no_room out w (leb-false (length out) room t)))
 
-  told_read : (d : Date) → is_sound l ≡ true → (is_length text && eqb (length l) book_length) ≡ true → Sound (book_of l) → date_of (book_of l).issue ≡ some d
+  told_read : (d : Date) → is_sound l ≡ true → (is_length text && eqb (length l) book_length) ≡ true → Sound (book_of l) → date_of (book_of l).issue ≡ Some d
       → (a : Answer Bulletin) → read_bulletin text d.year d.month ≡ a → Told (edited_rule text l room)
   unfolding edited_rule and_then
   told_read d good long s dated (no number place) e = rw (long, good, read_under_lem text _ d dated ∙ e) (unreadable d number place dated e)

@@ -3,7 +3,7 @@ use Prim.Native.Nat.{ℕ, suc, ◌+◌, ◌≤◌}
 use mathlib.Core.Path.{◌≡◌, refl, sym, ap, ◌∙◌}
 use mathlib.Core.Bool.{Bool, true, false, ◌&&◌}
 use mathlib.Core.List.{List, [], ◌∷◌, ◌++◌}
-use mathlib.Core.Option.{Option, none, some}
+use Rattle.std.specs.Prelude.{Option, None, Some}
 use lib.ListN.{length}
 use lib.Dec.{ltb, eqb}
 use borrow.Author.Tests.{ltb-false, le-ltb}
@@ -23,14 +23,14 @@ unfoldable pub clean : List ℕ → Bool
 clean [] = true
 clean (b ∷ s) = allowed b s && clean s
 
-bad_clean : (at : ℕ) (s : List ℕ) → bad_byte at s ≡ none → clean s ≡ true
+bad_clean : (at : ℕ) (s : List ℕ) → bad_byte at s ≡ None → clean s ≡ true
 unfolding bad_byte clean
 bad_clean at [] e = refl
 bad_clean at (b ∷ s) e =
     by (allowed b s) (λ h. rw h (bad_clean (suc at) s (rw h at e)))
-    λ h. let f : some at ≡ none = rw h at e in apart cc
+    λ h. let f : Some at ≡ None = rw h at e in apart cc
 
-clean_bad : (at : ℕ) (s : List ℕ) → clean s ≡ true → bad_byte at s ≡ none
+clean_bad : (at : ℕ) (s : List ℕ) → clean s ≡ true → bad_byte at s ≡ None
 unfolding bad_byte clean
 clean_bad at [] e = refl
 clean_bad at (b ∷ s) e = rw (and_left (allowed b s) (clean s) e) (clean_bad (suc at) s (and_right (allowed b s) (clean s) e))
@@ -65,13 +65,13 @@ pub record Fair (p : List ℕ) : Type 0 where
 pub wholes : {ps : List (List ℕ)} → All Fair ps → All Whole ps
 wholes a = all_map (λ p f. f.whole) a
 
-fair_from : (at : ℕ) {ps : List (List ℕ)} → All Whole ps → clean (in_order ps) ≡ true → long_line (lines_at at ps) ≡ none → All Fair ps
+fair_from : (at : ℕ) {ps : List (List ℕ)} → All Whole ps → clean (in_order ps) ≡ true → long_line (lines_at at ps) ≡ None → All Fair ps
 unfolding in_order long_line lines_at
 fair_from at all_nil c l = all_nil
 fair_from at (all_cons {x = p} {xs = ps} w ws) c l =
     let d : (clean p && clean (in_order ps)) ≡ true = sym (clean_whole w (in_order ps)) ∙ c in
     by (ltb line_most (length (body_of p)))
-    (λ h. let f : some (at + line_most) ≡ none = rw h at l in apart cc)
+    (λ h. let f : Some (at + line_most) ≡ None = rw h at l in apart cc)
     λ h. let s : length (body_of p) ≤ line_most = ltb-false line_most (length (body_of p)) h in
     all_cons (record { whole = w; clean = and_left (clean p) (clean (in_order ps)) d; short = s })
     (fair_from (at + length p) ws (and_right (clean p) (clean (in_order ps)) d) (rw h at l))
@@ -81,30 +81,30 @@ unfolding in_order clean
 fair_clean all_nil = refl
 fair_clean (all_cons {xs = ps} f fs) = clean_whole f.whole (in_order ps) ∙ rw f.clean (fair_clean fs)
 
-fair_long : (at : ℕ) {ps : List (List ℕ)} → All Fair ps → long_line (lines_at at ps) ≡ none
+fair_long : (at : ℕ) {ps : List (List ℕ)} → All Fair ps → long_line (lines_at at ps) ≡ None
 unfolding long_line lines_at
 fair_long at all_nil = refl
 fair_long at (all_cons {x = p} f fs) = rw (le-ltb line_most (length (body_of p)) f.short) (fair_long (at + length p) fs)
 
 -- ---- the text
-least_none : (a b : Option ℕ) → least a b ≡ none → (a ≡ none) × (b ≡ none)
+least_none : (a b : Option ℕ) → least a b ≡ None → (a ≡ None) × (b ≡ None)
 unfolding least
-least_none none b e = (refl, e)
-least_none (some m) none e = apart cc
-least_none (some m) (some n) e = apart cc
+least_none None b e = (refl, e)
+least_none (Some m) None e = apart cc
+least_none (Some m) (Some n) e = apart cc
 
-not_refused : (o : Option ℕ) → refused_at wrong_text o ≡ ok tt → o ≡ none
-not_refused none e = refl
-not_refused (some m) e = apart cc
+not_refused : (o : Option ℕ) → refused_at wrong_text o ≡ ok tt → o ≡ None
+not_refused None e = refl
+not_refused (Some m) e = apart cc
 
-ended_true : (text : List ℕ) → unended text ≡ none → last_ends text ≡ true
+ended_true : (text : List ℕ) → unended text ≡ None → last_ends text ≡ true
 unfolding unended
-ended_true text e = by (last_ends text) (λ h. h) (λ h. let f : some (length text) ≡ none = rw h at e in apart cc)
+ended_true text e = by (last_ends text) (λ h. h) (λ h. let f : Some (length text) ≡ None = rw h at e in apart cc)
 
 pub check_fair : (text : List ℕ) → check_text text ≡ ok tt → All Fair (pieces lf text)
 unfolding check_text text_fault
 check_fair text e =
-    let f : text_fault text ≡ none = not_refused (text_fault text) e in
+    let f : text_fault text ≡ None = not_refused (text_fault text) e in
     let g = least_none (bad_byte 0 text) (least (long_line (lines_of text)) (unended text)) f in
     let h = least_none (long_line (lines_of text)) (unended text) g.1 in
     fair_from 0 (whole_pieces text (ended_true text h.1)) (ap clean (joined_pieces lf text) ∙ bad_clean 0 text g.0) h.0
@@ -112,5 +112,5 @@ check_fair text e =
 pub fair_check : {ps : List (List ℕ)} → All Fair ps → check_text (in_order ps) ≡ ok tt
 unfolding check_text text_fault least unended
 fair_check {ps} a =
-    let l : long_line (lines_of (in_order ps)) ≡ none = ap (λ (x : List (List ℕ)). long_line (lines_at 0 x)) (pieces_joined (wholes a)) ∙ fair_long 0 a in
+    let l : long_line (lines_of (in_order ps)) ≡ None = ap (λ (x : List (List ℕ)). long_line (lines_at 0 x)) (pieces_joined (wholes a)) ∙ fair_long 0 a in
     rw (clean_bad 0 (in_order ps) (fair_clean a), l, whole_ends (wholes a))

@@ -4,7 +4,7 @@ use native.Mathlib.Omega.{arith}
 use mathlib.Core.Path.{◌≡◌, refl, sym, ◌∙◌}
 use mathlib.Core.Bool.{Bool, true, false, ◌&&◌, and-false}
 use mathlib.Core.List.{List, [], ◌∷◌, ◌++◌}
-use mathlib.Core.Option.{Option, none, some}
+use Rattle.std.specs.Prelude.{Option, None, Some}
 use lib.ListN.{length}
 use lib.Dec.{eqb}
 use borrow.Author.Tests.{eqb-true, ne_eqb}
@@ -32,8 +32,8 @@ numbers_front p s n =
 
 short_front : (last : Option ℕ) (s : List ℕ) → (short last s ≡ wrong → ⊥) → Front s
 unfolding short
-short_front none s n = absurd (n refl)
-short_front (some p) s n = numbers_front p s n
+short_front None s n = absurd (n refl)
+short_front (Some p) s n = numbers_front p s n
 
 pub said_front : (last : Option ℕ) (s : List ℕ) → (said last s ≡ wrong → ⊥) → Front s
 unfolding said

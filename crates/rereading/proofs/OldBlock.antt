@@ -4,7 +4,7 @@ use native.Mathlib.Omega.{arith}
 use mathlib.Core.Path.{◌≡◌, refl, sym, ap, ◌∙◌, subst}
 use mathlib.Core.Bool.{Bool, true, false}
 use mathlib.Core.List.{List, [], ◌∷◌, ◌++◌}
-use mathlib.Core.Option.{Option, none, some}
+use Rattle.std.specs.Prelude.{Option, None, Some}
 use lib.ListN.{length, drop, length-append}
 use lib.Seq.{drop-append_seam}
 use borrow.Author.Tests.{lt-ltb, le-ltb}
@@ -84,7 +84,7 @@ module _ (stop : ℕ) (ps : List ℕ) (s : Stamp) (z : ℕ) where
           → (r : Said) → said last x ≡ r → Purge k (length (x ++ in_order xs)) after
       go f (covers p n m) a =
           subst (λ (j : ℕ). Purge k j after) (sym both)
-          (on k (length x) (length (in_order xs)) after (f (some p) (insert_covered p n m got) (sym (read_covers stop last got one rest p n m a) ∙ e)))
+          (on k (length x) (length (in_order xs)) after (f (Some p) (insert_covered p n m got) (sym (read_covers stop last got one rest p n m a) ∙ e)))
       go f (purge u) a =
           let q : k ≡ z = ended_here (null xs) got u k (k + length x) (sym (read_purge_lem stop last got one rest u a) ∙ e) in
           let h : 1 ≤ length x = front_long x (said_front last x (λ w. let v : wrong ≡ purge u = sym w ∙ a in apart cc)) in
@@ -169,5 +169,5 @@ old_block text front {qs} ws t z e = read (read_block text (length front)) refl 
     read (block ps s y) q f =
         let same : y ≡ z = cc in
         subst (λ (k : ℕ). BlockLines k (length front) qs) same
-        (block_lines (length text) ps s y (length front) qs none []
-        (ap (λ (x : List (List ℕ)). read_from (length text) none [] (elements_of_lines (lines_at (length front) x))) (sym lines) ∙ q))
+        (block_lines (length text) ps s y (length front) qs None []
+        (ap (λ (x : List (List ℕ)). read_from (length text) None [] (elements_of_lines (lines_at (length front) x))) (sym lines) ∙ q))

@@ -4,7 +4,7 @@ use native.Mathlib.Omega.{arith}
 use mathlib.Core.Path.{◌≡◌, refl, sym, ap, ◌∙◌, subst}
 use mathlib.Core.Bool.{true}
 use mathlib.Core.List.{List, [], ◌∷◌, ◌++◌, append-nil}
-use mathlib.Core.Option.{Option, none, some}
+use Rattle.std.specs.Prelude.{Option, None, Some}
 use lib.ListN.{length, drop, length-append}
 use lib.Seq.{drop-append_seam}
 use borrow.Author.Tests.{le-leb}
@@ -62,9 +62,9 @@ module _ (end : End) (stop : ℕ) (ps : List ℕ) (s : Stamp) where
   unfolding elements_at
   passed [] at after m more last got r = record { under = last; so_far = got; reads = refl; left = r }
   passed (e ∷ []) at after m more last got (goes p n k a r) =
-      record { under = some p; so_far = insert_covered p n k got; reads = read_covers stop last got (element at e []) after p n k a; left = r }
+      record { under = Some p; so_far = insert_covered p n k got; reads = read_covers stop last got (element at e []) after p n k a; left = r }
   passed (e ∷ (x ∷ l)) at after m more last got (goes p n k a r) =
-      let i = passed (x ∷ l) (at + length e) after m more (some p) (insert_covered p n k got) r in
+      let i = passed (x ∷ l) (at + length e) after m more (Some p) (insert_covered p n k got) r in
       record {
         under = i.under;
         so_far = i.so_far;
@@ -175,7 +175,7 @@ module _ (end : End) (so : ends_line end ≡ true) (s : Stamp) (t : is_time s �
 
   written_fit : (ps : List ℕ) → All FitLine (lines_from 0 (written end ps s))
   unfolding written block_elements
-  written_fit ps = rendered_fit end so 0 (words_spans s none (spans_of (runs_of ps))) (short_spans s none (spans_of (runs_of ps)))
+  written_fit ps = rendered_fit end so 0 (words_spans s None (spans_of (runs_of ps))) (short_spans s None (spans_of (runs_of ps)))
 
   written_fair : {ps : List ℕ} → Ascending 0 ps → All Fair (written_lines end ps s)
   unfolding written_lines
@@ -197,16 +197,16 @@ module _ (end : End) (so : ends_line end ≡ true) (s : Stamp) (t : is_time s �
         ∙ ap (pieces lf) (drop-append_seam front (in_order (written_lines end ps s ++ rest)))
         ∙ pieces_joined (all_append (written_whole up) ws)
 
-    there : Ending end (length text) ps s none [] (length front) (wrapped (block_elements ps s)) rest
+    there : Ending end (length text) ps s None [] (length front) (wrapped (block_elements ps s)) rest
     there =
-        ending end (length text) ps s _ _ (written_lined up) none []
-        (subst (Reads s ps none []) (sym (wrapped_all (block_elements ps s))) (written_reads ps s up t)) (length front) rest
+        ending end (length text) ps s _ _ (written_lined up) None []
+        (subst (Reads s ps None []) (sym (wrapped_all (block_elements ps s))) (written_reads ps s up t)) (length front) rest
 
     read_there : read_block text (length front) ≡ block ps s there.purge_at_lem
     unfolding read_block written_lines
-    read_there = ap (λ (x : List (List ℕ)). read_from (length text) none [] (elements_of_lines (lines_at (length front) x))) lines_there ∙ there.reads
+    read_there = ap (λ (x : List (List ℕ)). read_from (length text) None [] (elements_of_lines (lines_at (length front) x))) lines_there ∙ there.reads
 
-    once_there : twice_at text (length front) ≡ none
+    once_there : twice_at text (length front) ≡ None
     unfolding twice_at
     once_there =
         let q : drop (length front) text ≡ written end ps s ++ in_order rest =
@@ -214,9 +214,9 @@ module _ (end : End) (so : ends_line end ≡ true) (s : Stamp) (t : is_time s �
         ∙ drop-append_seam front (in_order (written_lines end ps s ++ rest))
         ∙ joined_append (written_lines end ps s) rest
         ∙ ap (λ (x : List ℕ). x ++ in_order rest) (written_joined ps) in
-        ap (λ (x : List ℕ). twice_from none [] (elements_from (length front) x)) q ∙ written_once end so (length front) ps (in_order rest) s up t
+        ap (λ (x : List ℕ). twice_from None [] (elements_from (length front) x)) q ∙ written_once end so (length front) ps (in_order rest) s up t
 
-    written_back_lem : length ps ≤ capacity → purge_of issue s ≡ some minute
+    written_back_lem : length ps ≤ capacity → purge_of issue s ≡ Some minute
         → ReadAs text issue (length front) (written_lines end ps s ++ rest) (record { purge = minute; places = ps }) (length (written end ps s))
     unfolding placed_at content_at and_then written_lines
     written_back_lem few given =
@@ -233,7 +233,7 @@ record Writes (issue : ℕ) (end : End) (c : Content) : Type 0 where
   given : written_block end c.places c.purge ≡ ok block
   new : NewBlock issue end c block
 
-block_given_lem : (end : End) (ps : List ℕ) (t : ℕ) (d : Date) → is_set ps ≡ true → date_of t ≡ some d → written_block end ps t ≡ ok (written end ps d.stamp)
+block_given_lem : (end : End) (ps : List ℕ) (t : ℕ) (d : Date) → is_set ps ≡ true → date_of t ≡ Some d → written_block end ps t ≡ ok (written end ps d.stamp)
 unfolding written_block
 block_given_lem end ps t d e f = rw (e, f)
 
@@ -250,8 +250,8 @@ given_lines end so ps minute b e =
     by (is_set ps) (λ q. dated q (date_of minute) refl (rw q at e)) (λ q. let z : refused out_of_range 0 ≡ ok b = rw q at e in apart cc)
   where
     dated : is_set ps ≡ true → (o : Option Date) → date_of minute ≡ o → dated_block end ps o ≡ ok b → GivenLines end b
-    dated q none f g = apart cc
-    dated q (some d) f g =
+    dated q None f g = apart cc
+    dated q (Some d) f g =
         let s : Stamp = d.stamp in
         let t : is_time s ≡ true = date_time d minute f in
         let v = set_true ps q in

@@ -4,7 +4,7 @@ use native.Mathlib.Omega.{arith}
 use mathlib.Core.Path.{◌≡◌, refl, sym, ap, ◌∙◌, subst}
 use mathlib.Core.Bool.{true}
 use mathlib.Core.List.{List, [], ◌∷◌, ◌++◌, append_assoc}
-use mathlib.Core.Option.{Option, none, some}
+use Rattle.std.specs.Prelude.{Option, None, Some}
 use lib.ListN.{length, drop}
 use lib.Seq.{drop-append_seam}
 use lib.Dec.{eqb, leb}
@@ -62,8 +62,8 @@ print_end n zero h = print_dash
 print_end n (suc k) h = all_cons (print 62 (omega arith) (omega arith)) (all_append (print_three (n + suc k) (omega arith)) print_dash)
 
 print_heading : (last : Option ℕ) (p : ℕ) → p < prefixes → All Print (new_prefix last p)
-print_heading none p h = print_prefix p h
-print_heading (some q) p h = either_way (All Print) (eqb q p) all_nil (print_prefix p h)
+print_heading None p h = print_prefix p h
+print_heading (Some q) p h = either_way (All Print) (eqb q p) all_nil (print_prefix p h)
 
 -- ---- an element
 pub record Good (e : List ℕ) : Type 0 where
@@ -89,7 +89,7 @@ good_purge s t =
     let r = time_true s t in
     record {
       word = word_purge s;
-      front = said_front none (purge_element s) (λ w. let v : wrong ≡ purge s = sym w ∙ said_purge none s t in apart cc);
+      front = said_front None (purge_element s) (λ w. let v : wrong ≡ purge s = sym w ∙ said_purge None s t in apart cc);
       print =
           all_append (print_two s.day (omega arith))
           (all_append (print_two s.hour (omega arith)) (all_append (print_two s.minute (omega arith)) print_dash));
@@ -98,7 +98,7 @@ good_purge s t =
 good_elements : (s : Stamp) → is_time s ≡ true → (last : Option ℕ) {rs : List Run} → All Fine rs → All Good (elements_of last rs ++ (purge_element s ∷ []))
 unfolding elements_of
 good_elements s t last all_nil = all_cons (good_purge s t) all_nil
-good_elements s t last (all_cons {x = r} f fs) = all_cons (good_element last r f) (good_elements s t (some (r.first / 1000)) fs)
+good_elements s t last (all_cons {x = r} f fs) = all_cons (good_element last r f) (good_elements s t (Some (r.first / 1000)) fs)
 
 -- ---- the lines: one element or more on each
 pub data Lined : List (List ℕ) → Type 0 where
@@ -226,7 +226,7 @@ module _ (end : End) where
         all_cons (record { whole = whole_print p; clean = clean_print p; short = s }) (ended_fair (at + length (in_order x ++ end_bytes end)) ls hs)
 
 -- ---- of a block
-pub spans_lined : (s : Stamp) → is_time s ≡ true → {rs : List Run} → All Fine rs → All Lined (wrapped (elements_of none rs ++ (purge_element s ∷ [])))
+pub spans_lined : (s : Stamp) → is_time s ≡ true → {rs : List Run} → All Fine rs → All Lined (wrapped (elements_of None rs ++ (purge_element s ∷ [])))
 unfolding elements_of
-spans_lined s t all_nil = wrapped_lined (purge_element s) [] (purge_short s) (good_elements s t none all_nil)
-spans_lined s t (all_cons {x = r} f fs) = wrapped_lined (element_of none r) _ (element_short none r) (good_elements s t none (all_cons f fs))
+spans_lined s t all_nil = wrapped_lined (purge_element s) [] (purge_short s) (good_elements s t None all_nil)
+spans_lined s t (all_cons {x = r} f fs) = wrapped_lined (element_of None r) _ (element_short None r) (good_elements s t None (all_cons f fs))

@@ -1,6 +1,6 @@
 -- Document 02, R-1 with R-5: what is proved of the rule of the call that writes the edited bulletin out. A reader must believe these notions to believe its laws.
 use Rattle.std.specs.Prelude.{ℕ, ◌≤◌, ◌<◌, suc, ◌≡◌, true, false, ◌&&◌, List, map, length, eqb}
-use Rattle.std.proofs.Math.Option.{some}
+use Rattle.std.specs.Prelude.{Some}
 use Rattle.laws.specs.Lists.{All}
 use Rattle.refusal.specs.Numbers.{wrong_length, not_sound, output_short, not_belonging}
 use Rattle.refusal.specs.Answer.{Answer, ok, no, refused}
@@ -59,7 +59,7 @@ pub record EditedReads (text : List ℕ) (year month : ℕ) (r : Bulletin) (cs :
 -- with the book's contents.
 pub record WrittenReads (text l out : List ℕ) : Type 0 where
   pub date : Date
-  pub dated : date_of (book_of l).issue ≡ some date
+  pub dated : date_of (book_of l).issue ≡ Some date
   pub read : Bulletin
   pub reads : read_bulletin text date.year date.month ≡ ok read
   pub agrees : Agrees (book_of l) read
@@ -79,7 +79,7 @@ KeepsEnd text out = (end : End) → OnlyEnd end text → OnlyEnd end out
 pub record EditedText (text l out : List ℕ) : Type 0 where
   pub sound : is_sound l ≡ true
   pub date : Date
-  pub dated : date_of (book_of l).issue ≡ some date
+  pub dated : date_of (book_of l).issue ≡ Some date
   pub read : Bulletin
   pub reads : read_bulletin text date.year date.month ≡ ok read
   pub agrees : Agrees (book_of l) read
@@ -94,10 +94,10 @@ pub data EditedAnswer (text l : List ℕ) (room : ℕ) : Answer (List ℕ) → T
   -- 12
   unsound : is_sound l ≡ false → EditedAnswer text l room (refused not_sound 0)
   -- reading's own
-  unreadable : (d : Date) (number place : ℕ) → date_of (book_of l).issue ≡ some d → read_bulletin text d.year d.month ≡ no number place
+  unreadable : (d : Date) (number place : ℕ) → date_of (book_of l).issue ≡ Some d → read_bulletin text d.year d.month ≡ no number place
       → EditedAnswer text l room (no number place)
   -- 27
-  stranger : (d : Date) (r : Bulletin) → date_of (book_of l).issue ≡ some d → read_bulletin text d.year d.month ≡ ok r → belongs (book_of l) r ≡ false
+  stranger : (d : Date) (r : Bulletin) → date_of (book_of l).issue ≡ Some d → read_bulletin text d.year d.month ≡ ok r → belongs (book_of l) r ≡ false
       → EditedAnswer text l room (refused not_belonging 0)
   -- 23
   no_room : (out : List ℕ) → EditedText text l out → room < length out → EditedAnswer text l room (refused output_short 0)

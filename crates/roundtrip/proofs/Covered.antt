@@ -4,7 +4,7 @@ use native.Mathlib.Omega.{arith}
 use mathlib.Core.Path.{◌≡◌, refl, sym, ◌∙◌, subst}
 use mathlib.Core.Bool.{Bool, true, false}
 use mathlib.Core.List.{List, [], ◌∷◌, Memᴰ}
-use mathlib.Core.Option.{Option, some}
+use Rattle.std.specs.Prelude.{Option, Some}
 use mathlib.Core.Logic.{◌⊎◌, inl, inr, ⊎_elim}
 use lib.ListN.{length}
 use Rattle.laws.proofs.Tests.{apart}
@@ -20,7 +20,7 @@ use Rattle.codes.proofs.Bounds.{Below, covers_low}
 pub data Told (s : Stamp) (ps : List ℕ) : Option ℕ → List ℕ → List Element → Type 0 where
   told_purge : {last : Option ℕ} {got : List ℕ} {e : Element} {es : List Element} → said last e.bytes ≡ purge s → got ≡ ps → Told s ps last got (e ∷ es)
   told_more : {last : Option ℕ} {got : List ℕ} {e : Element} {es : List Element} (p n m : ℕ) → said last e.bytes ≡ covers p n m
-      → Told s ps (some p) (insert_covered p n m got) es → Told s ps last got (e ∷ es)
+      → Told s ps (Some p) (insert_covered p n m got) es → Told s ps last got (e ∷ es)
 
 module _ (stop z : ℕ) {s : Stamp} {ps : List ℕ} where
   told_end : {last : Option ℕ} {e : Element} {es : List Element} (t : Bool) (got : List ℕ) (u : Stamp) (at next : ℕ) → said last e.bytes ≡ purge u
@@ -34,9 +34,9 @@ module _ (stop z : ℕ) {s : Stamp} {ps : List ℕ} where
   pub told : (last : Option ℕ) (got : List ℕ) (es : List Element) → read_from stop last got es ≡ block ps s z → Told s ps last got es
   unfolding read_from
   told last got [] q = apart cc
-  told last got (e ∷ es) q = go (λ p n m. told (some p) (insert_covered p n m got) es) (said last e.bytes) refl
+  told last got (e ∷ es) q = go (λ p n m. told (Some p) (insert_covered p n m got) es) (said last e.bytes) refl
     where
-      go : ((p n m : ℕ) → read_from stop (some p) (insert_covered p n m got) es ≡ block ps s z → Told s ps (some p) (insert_covered p n m got) es)
+      go : ((p n m : ℕ) → read_from stop (Some p) (insert_covered p n m got) es ≡ block ps s z → Told s ps (Some p) (insert_covered p n m got) es)
           → (r : Said) → said last e.bytes ≡ r → Told s ps last got (e ∷ es)
       go f (covers p n m) a = told_more p n m a (f p n m (sym (read_covers stop last got e es p n m a) ∙ q))
       go f (purge u) a = told_end e.last got u e.at (e.at + length e.bytes) a (sym (read_purge_lem stop last got e es u a) ∙ q)
@@ -58,7 +58,7 @@ module _ {s : Stamp} {ps : List ℕ} where
       in_kept q t (run_here (suc m - n) (place_of p n) q got (omega arith) (omega arith))
   covered_in q (told_more {es} p n m a t) (later p' n' m' r c) =
       let ep : p' ≡ p = cc in
-      covered_in q t (subst (λ (x : ℕ). Covered q (some x) es) ep c)
+      covered_in q t (subst (λ (x : ℕ). Covered q (Some x) es) ep c)
 
   -- ---- and nothing else
   pub in_covered : (q : ℕ) {last : Option ℕ} {got : List ℕ} {es : List Element} → Told s ps last got es → Memᴰ q ps → Memᴰ q got ⊎ Covered q last es
@@ -68,7 +68,7 @@ module _ {s : Stamp} {ps : List ℕ} where
       ⊎_elim (λ (o : (place_of p n ≤ q) × (q < place_of p n + (suc m - n))). inr (here p n m a o.0 (omega (arith, o.0, o.1))))
       (λ (v : Memᴰ q got). inl v)
       (run_from_lem (suc m - n) (place_of p n) q got u))
-      (λ (c : Covered q (some p) _). inr (later p n m a c))
+      (λ (c : Covered q (Some p) _). inr (later p n m a c))
       (in_covered q t w)
 
   -- ---- and it is strictly ascending

@@ -4,7 +4,7 @@ use native.Mathlib.Omega.{arith}
 use mathlib.Core.Path.{◌≡◌, sym, ap, ◌∙◌}
 use mathlib.Core.Bool.{true}
 use mathlib.Core.List.{List, [], ◌∷◌, ◌++◌, append-nil}
-use mathlib.Core.Option.{Option, some}
+use Rattle.std.specs.Prelude.{Option, Some}
 use lib.ListN.{length, length-append}
 use borrow.Author.Tests.{leb-true}
 use Rattle.laws.proofs.Tests.{by}
@@ -23,7 +23,7 @@ Short e = length e ≤ written_most
 pub short_spans : (s : Stamp) (last : Option ℕ) (rs : List Run) → All Short (elements_of last rs ++ (purge_element s ∷ []))
 unfolding elements_of
 short_spans s last [] = all_cons (purge_short s) all_nil
-short_spans s last (r ∷ rs) = all_cons (element_short last r) (short_spans s (some (r.first / 1000)) rs)
+short_spans s last (r ∷ rs) = all_cons (element_short last r) (short_spans s (Some (r.first / 1000)) rs)
 
 -- ---- the lines, by elements
 abbrev Fit : List (List ℕ) → Type 0

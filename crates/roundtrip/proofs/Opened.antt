@@ -5,7 +5,7 @@ use mathlib.Core.Path.{◌≡◌, refl, sym, ap, ◌∙◌, subst}
 use mathlib.Core.Bool.{true, false, cond, ◌&&◌, ◌||◌}
 use mathlib.Core.List.Memᴰ
 use mathlib.Core.List.{List, [], ◌∷◌, ◌++◌, Memᴰ}
-use mathlib.Core.Option.{Option, none, some}
+use Rattle.std.specs.Prelude.{Option, None, Some}
 use lib.ListN.{length, drop}
 use lib.Dec.{leb, eqb}
 use borrow.Author.Tests.{leb-true, lt-leb}
@@ -31,8 +31,8 @@ numbers_no p s u =
 
 short_no : (last : Option ℕ) (s : List ℕ) (u : Stamp) → short last s ≡ purge u → ⊥
 unfolding short
-short_no none s u e = apart cc
-short_no (some p) s u e = numbers_no p s u e
+short_no None s u e = apart cc
+short_no (Some p) s u e = numbers_no p s u e
 
 digit_no : (b : ℕ) (s : List ℕ) → capital b ≡ true → exactly purge_form (b ∷ s) ≡ false
 unfolding exactly
@@ -97,16 +97,16 @@ member_long : (q : ℕ) (ps : List ℕ) → Memᴰ q ps → 1 ≤ length ps
 member_long q [] m = absurd (Memᴰ.not-nil m)
 member_long q (p ∷ ps) m = omega arith
 
-told_long : {s : Stamp} {ps : List ℕ} {es : List Element} → Capital es → Told s ps none [] es → 1 ≤ length ps
-told_long {s} {ps} c t = go c.first c.after c.starts (subst (Told s ps none []) c.are t)
+told_long : {s : Stamp} {ps : List ℕ} {es : List Element} → Capital es → Told s ps None [] es → 1 ≤ length ps
+told_long {s} {ps} c t = go c.first c.after c.starts (subst (Told s ps None []) c.are t)
   where
-    go : (e : Element) (es : List Element) → e.bytes ≡ c.byte ∷ c.bytes → Told s ps none [] (e ∷ es) → 1 ≤ length ps
-    go e es b (told_purge a g) = absurd (purge_no none c.byte c.bytes s c.capital (ap (said none) (sym b) ∙ a))
+    go : (e : Element) (es : List Element) → e.bytes ≡ c.byte ∷ c.bytes → Told s ps None [] (e ∷ es) → 1 ≤ length ps
+    go e es b (told_purge a g) = absurd (purge_no None c.byte c.bytes s c.capital (ap (said None) (sym b) ∙ a))
     go e es b (told_more p n m a r) =
-        let low = covers_low none e.bytes p n m tt a in
+        let low = covers_low None e.bytes p n m tt a in
         member_long (place_of p n) ps (covered_in (place_of p n) (told_more {e = e} {es = es} p n m a r) (here {e = e} {es = es} p n m a (omega arith) (omega (arith, low.order))))
 
 -- it covers a place
 pub opened_long : (text : List ℕ) (at : ℕ) (ps : List ℕ) (s : Stamp) (z : ℕ) → Opens text at → read_block text at ≡ block ps s z → 1 ≤ length ps
 unfolding read_block
-opened_long text at ps s z o e = told_long (opens_elements text at o) (told (length text) z none [] (elements_from at (drop at text)) e)
+opened_long text at ps s z o e = told_long (opens_elements text at o) (told (length text) z None [] (elements_from at (drop at text)) e)

@@ -3,7 +3,7 @@ use Prim.Native.Nat.{ℕ, ◌+◌, ◌≤◌}
 use mathlib.Core.Path.{◌≡◌, refl, ap, ◌∙◌}
 use mathlib.Core.Bool.{true}
 use mathlib.Core.List.{List, [], ◌∷◌, ◌++◌, append_assoc}
-use mathlib.Core.Option.{none}
+use Rattle.std.specs.Prelude.{None}
 use lib.ListN.{length}
 use Rattle.laws.specs.Lists.{All, all_nil, all_cons}
 use Rattle.lines.specs.Lines.{opens, Line, lines_at, lines_from, ends_line}
@@ -39,7 +39,7 @@ module _ (end : End) (so : ends_line end ≡ true) (at : ℕ) (rest : List ℕ) 
         first = ap opens (body_joined end (wrap_words 0 ws).now) ∙ ap (λ (x : Wrapped). opens (in_order x.line)) q ∙ f (in_order v.line);
       }
 
-  pub spans_open : (s : Stamp) {rs : List Run} → All Fine rs → (rs ≡ [] → ⊥) → Opening at (rendered end (wrapped (elements_of none rs ++ (purge_element s ∷ []))) ++ rest)
+  pub spans_open : (s : Stamp) {rs : List Run} → All Fine rs → (rs ≡ [] → ⊥) → Opening at (rendered end (wrapped (elements_of None rs ++ (purge_element s ∷ []))) ++ rest)
   unfolding elements_of
   spans_open s all_nil n = absurd (n refl)
-  spans_open s (all_cons {x = r} {xs = rs} f fs) n = opening (element_short none r) (words_spans s none (r ∷ rs)) (element_opens r f)
+  spans_open s (all_cons {x = r} {xs = rs} f fs) n = opening (element_short None r) (words_spans s None (r ∷ rs)) (element_opens r f)

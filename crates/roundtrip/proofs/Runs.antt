@@ -6,7 +6,7 @@ use mathlib.Core.Path.{◌≡◌, refl, sym, ap, ◌∙◌, subst, subst₂}
 use mathlib.Core.Logic.{◌≢◌}
 use mathlib.Core.Bool.{true, ◌&&◌, not}
 use mathlib.Core.List.{List, [], ◌∷◌, ◌++◌, append_assoc, append-nil}
-use mathlib.Core.Option.{Option, some}
+use Rattle.std.specs.Prelude.{Option, Some}
 use lib.Dec.{eqb}
 use borrow.Author.Tests.{eqb-true, eqb-false, not-true}
 use Rattle.laws.proofs.Tests.{by, and_left, and_right}
@@ -140,7 +140,7 @@ run_above n p (cons g h a) =
 pub data Reads (s : Stamp) (ps : List ℕ) : Option ℕ → List ℕ → List (List ℕ) → Type 0 where
   stops : {l : Option ℕ} {g : List ℕ} {e : List ℕ} → said l e ≡ purge s → g ≡ ps → Reads s ps l g (e ∷ [])
   goes : {l : Option ℕ} {g : List ℕ} {e : List ℕ} {es : List (List ℕ)} (p n k : ℕ) → said l e ≡ covers p n k
-      → Reads s ps (some p) (insert_covered p n k g) es → Reads s ps l g (e ∷ es)
+      → Reads s ps (Some p) (insert_covered p n k g) es → Reads s ps l g (e ∷ es)
 
 pub reads_nothing : {s : Stamp} {ps : List ℕ} {l : Option ℕ} {g : List ℕ} → Reads s ps l g [] → ⊥
 reads_nothing r = elim r [ ]
@@ -150,7 +150,7 @@ module _ (s : Stamp) where
   pub words_spans : (last : Option ℕ) (rs : List Run) → All Word (elements_of last rs ++ (purge_element s ∷ []))
   unfolding elements_of
   words_spans last [] = all_cons (word_purge s) all_nil
-  words_spans last (r ∷ rs) = all_cons (word_element last r) (words_spans (some (r.first / 1000)) rs)
+  words_spans last (r ∷ rs) = all_cons (word_element last r) (words_spans (Some (r.first / 1000)) rs)
 
   pub reads_spans : is_time s ≡ true → (last : Option ℕ) (got : List ℕ) {b : ℕ} {rs : List Run} → All Fine rs → Ascending b (places_of rs) → Under b got
       → Reads s (got ++ places_of rs) last got (elements_of last rs ++ (purge_element s ∷ []))
@@ -165,16 +165,16 @@ module _ (s : Stamp) where
       let g : r.first / 1000 * 1000 + n ≡ r.first = omega arith in
       let same : got ++ up ≡ insert_covered (r.first / 1000) n (n + r.more) got = rw (e, g) (sym (insert_upward (suc r.more) r.first v)) in
       goes (r.first / 1000) n (n + r.more) (said_element last r f)
-      (subst₂ (λ (x y : List ℕ). Reads s x (some (r.first / 1000)) y (elements_of (some (r.first / 1000)) rs ++ (purge_element s ∷ [])))
+      (subst₂ (λ (x y : List ℕ). Reads s x (Some (r.first / 1000)) y (elements_of (Some (r.first / 1000)) rs ++ (purge_element s ∷ [])))
       (append_assoc got up (places_of rs))
       same
-      (reads_spans t (some (r.first / 1000)) (got ++ up) fs above.1 (under_upward (suc r.more) r.first v)))
+      (reads_spans t (Some (r.first / 1000)) (got ++ up) fs above.1 (under_upward (suc r.more) r.first v)))
 
 -- ---- and each element covers places above those before it: from a last prefix and a bound, under which those before it are
 pub data Rising : Option ℕ → ℕ → List (List ℕ) → Type 0 where
   rising_end : {l : Option ℕ} {b : ℕ} {e : List ℕ} (s : Stamp) → said l e ≡ purge s → Rising l b (e ∷ [])
   rising_on : {l : Option ℕ} {b : ℕ} {e : List ℕ} {es : List (List ℕ)} (p n k : ℕ) → said l e ≡ covers p n k → b ≤ place_of p n → n ≤ k
-      → Rising (some p) (suc (place_of p k)) es → Rising l b (e ∷ es)
+      → Rising (Some p) (suc (place_of p k)) es → Rising l b (e ∷ es)
 
 pub rising_nothing : {l : Option ℕ} {b : ℕ} → Rising l b [] → ⊥
 rising_nothing r = elim r [ ]
@@ -189,4 +189,4 @@ rising_spans s t last {b} (all_cons {x = r} {xs = rs} f fs) a =
     let p : ℕ = r.first / 1000 in
     let e : r.first + suc r.more ≡ suc (place_of p (n + r.more)) = omega arith in
     rising_on {b = b} p n (n + r.more) (said_element last r f) (omega (arith, above.0)) (omega arith)
-    (rising_spans s t (some p) fs (subst (λ (x : ℕ). Ascending x (places_of rs)) e above.1))
+    (rising_spans s t (Some p) fs (subst (λ (x : ℕ). Ascending x (places_of rs)) e above.1))

@@ -4,7 +4,7 @@ use native.Mathlib.Omega.{arith}
 use mathlib.Core.Path.{◌≡◌, refl, ap, ◌∙◌}
 use mathlib.Core.Bool.{Bool, true, false, cond}
 use mathlib.Core.List.{List, [], ◌∷◌, ◌++◌}
-use mathlib.Core.Option.{Option, none, some}
+use Rattle.std.specs.Prelude.{Option, None, Some}
 use lib.ListN.{length}
 use lib.Dec.{eqb}
 use borrow.Author.Tests.{ne_eqb, le-leb, lt-leb, lt-ltb, eqb-true, eqb-false}
@@ -71,7 +71,7 @@ module _ (p n : ℕ) (h : n < 1000) where
         (rw (ne_eqb (48 + n / 100) 65 (omega arith), three_back n h, three_back m k, le-leb 1 n one, lt-ltb n m less))
 
   -- three digits and no fourth: under the last prefix
-  said_short : (y : ℕ) (t : List ℕ) → digit y ≡ false → said (some p) (three_bytes n ++ (y ∷ t)) ≡ numbers p (three_bytes n ++ (y ∷ t))
+  said_short : (y : ℕ) (t : List ℕ) → digit y ≡ false → said (Some p) (three_bytes n ++ (y ∷ t)) ≡ numbers p (three_bytes n ++ (y ∷ t))
   unfolding said exactly begins short
   said_short y t f = rw (hundreds, tens, ones, f) (rw (no_capital (n / 100) (omega arith)))
 
@@ -107,15 +107,15 @@ numbers_tail : (p n k : ℕ) → n + k ≤ 999 → (1 ≤ k → 1 ≤ n) → num
 numbers_tail p n zero h g = numbers_single p n (omega arith) ∙ ap (λ (x : ℕ). covers p n x) (omega arith)
 numbers_tail p n (suc k) h g = numbers_range p n (omega arith) (n + suc k) (omega arith) (g (omega arith)) (omega arith)
 
-short_tail : (p n k : ℕ) → n + k ≤ 999 → said (some p) (tail_of n k) ≡ numbers p (tail_of n k)
+short_tail : (p n k : ℕ) → n + k ≤ 999 → said (Some p) (tail_of n k) ≡ numbers p (tail_of n k)
 short_tail p n zero h = said_short p n (omega arith) 45 [] refl
 short_tail p n (suc k) h = said_short p n (omega arith) 62 _ refl
 
 said_headed : (last : Option ℕ) (p n k : ℕ) → p < prefixes → n + k ≤ 999 → said last (new_prefix last p ++ tail_of n k) ≡ numbers p (tail_of n k)
-said_headed none p n k h g = said_full none p (tail_of n k) h
-said_headed (some q) p n k h g =
+said_headed None p n k h g = said_full None p (tail_of n k) h
+said_headed (Some q) p n k h g =
     by (eqb q p) (λ e. rw (e, eqb-true q p e) (short_tail p n k g))
-    λ e. rw e (said_full (some q) p (tail_of n k) h)
+    λ e. rw e (said_full (Some q) p (tail_of n k) h)
 
 pub said_element : (last : Option ℕ) (r : Run) → Fine r → said last (element_of last r) ≡ covers (r.first / 1000) (r.first % 1000) (r.first % 1000 + r.more)
 unfolding element_of
@@ -142,8 +142,8 @@ word_tail n zero = word_three n ends
 word_tail n (suc k) = word_three n (byte {b = 62} (omega arith) (word_three (n + suc k) ends))
 
 word_headed : (last : Option ℕ) (p : ℕ) {t : List ℕ} → Word t → Word (new_prefix last p ++ t)
-word_headed none p w = word_prefix p w
-word_headed (some q) p {t} w = either_way (λ (x : List ℕ). Word (x ++ t)) (eqb q p) w (word_prefix p w)
+word_headed None p w = word_prefix p w
+word_headed (Some q) p {t} w = either_way (λ (x : List ℕ). Word (x ++ t)) (eqb q p) w (word_prefix p w)
 
 pub word_element : (last : Option ℕ) (r : Run) → Word (element_of last r)
 unfolding element_of
@@ -170,6 +170,6 @@ opens_tail : (p n k : ℕ) (t : List ℕ) → p < prefixes → n < 1000 → open
 opens_tail p n zero t h g = opens_bytes p n 45 t h g refl
 opens_tail p n (suc k) t h g = opens_bytes p n 62 _ h g refl
 
-pub element_opens : (r : Run) → Fine r → (t : List ℕ) → opens (element_of none r ++ t) ≡ true
+pub element_opens : (r : Run) → Fine r → (t : List ℕ) → opens (element_of None r ++ t) ≡ true
 unfolding element_of
 element_opens r f t = opens_tail (r.first / 1000) (r.first % 1000) r.more t (omega (arith, f.below)) (omega arith)

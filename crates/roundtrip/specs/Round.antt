@@ -1,7 +1,7 @@
 -- Document 01: what reading and writing a block are to each other, and what the elements of a written block spell. A reader must believe these notions to believe roundtrip's laws.
 use Rattle.std.specs.Prelude.{ℕ, ◌/◌, ◌≤◌, ◌≡◌, true, cond, length, drop}
 use mathlib.Core.List.{List, [], ◌∷◌, ◌++◌, Memᴰ}
-use Rattle.std.proofs.Math.Option.{Option, none, some}
+use Rattle.std.specs.Prelude.{Option, None, Some}
 use Rattle.refusal.specs.Answer.{ok}
 use Rattle.lines.specs.Bytes.{begins}
 use Rattle.lines.specs.Lines.{prefix_form, opens, Line, lines_from}
@@ -22,8 +22,8 @@ pub record ReadsBack (end : End) (issue : ℕ) (c : Content) : Type 0 where
 -- The places are strictly ascending, AAC000, whose number is 0, among the first; each is covered by an element before the purge, and each place that such an element covers is among them.
 pub record Addressed (ps : List ℕ) (at : ℕ) (text : List ℕ) : Type 0 where
   pub ascending : Ascending 0 ps
-  pub only : (q : ℕ) → Memᴰ q ps → Covered q none (elements_from at text)
-  pub every : (q : ℕ) → Covered q none (elements_from at text) → Memᴰ q ps
+  pub only : (q : ℕ) → Memᴰ q ps → Covered q None (elements_from at text)
+  pub every : (q : ℕ) → Covered q None (elements_from at text) → Memᴰ q ps
 
 -- ---- "A block in which two elements cover one place is refused, at the first element that covers a place already covered" (document 02, R-3)
 -- the element at the place y covers q
@@ -31,14 +31,14 @@ pub data CoveredAt (q y : ℕ) : Option ℕ → List Element → Type 0 where
   this : {last : Option ℕ} {e : Element} {es : List Element} (p n m : ℕ) → said last e.bytes ≡ covers p n m
       → place_of p n ≤ q → q ≤ place_of p m → e.at ≡ y → CoveredAt q y last (e ∷ es)
   further : {last : Option ℕ} {e : Element} {es : List Element} (p n m : ℕ) → said last e.bytes ≡ covers p n m
-      → CoveredAt q y (some p) es → CoveredAt q y last (e ∷ es)
+      → CoveredAt q y (Some p) es → CoveredAt q y last (e ∷ es)
 
 -- an element covers q, and so does a later one, at the place y
 pub data CoveredTwice (q y : ℕ) : Option ℕ → List Element → Type 0 where
   both : {last : Option ℕ} {e : Element} {es : List Element} (p n m : ℕ) → said last e.bytes ≡ covers p n m
-      → place_of p n ≤ q → q ≤ place_of p m → CoveredAt q y (some p) es → CoveredTwice q y last (e ∷ es)
+      → place_of p n ≤ q → q ≤ place_of p m → CoveredAt q y (Some p) es → CoveredTwice q y last (e ∷ es)
   both_further : {last : Option ℕ} {e : Element} {es : List Element} (p n m : ℕ) → said last e.bytes ≡ covers p n m
-      → CoveredTwice q y (some p) es → CoveredTwice q y last (e ∷ es)
+      → CoveredTwice q y (Some p) es → CoveredTwice q y last (e ∷ es)
 
 -- ---- "A line opens a block": the text's line from this place on does
 pub record Opens (text : List ℕ) (at : ℕ) : Type 0 where

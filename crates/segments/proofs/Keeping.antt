@@ -5,8 +5,9 @@ use native.Mathlib.Numerals.{add-one}
 use native.Mathlib.Omega.{arith}
 use mathlib.Core.Path.{◌≡◌, refl, sym, ap, ◌∙◌}
 use mathlib.Core.List.{List, [], ◌∷◌, ◌++◌, map}
-use mathlib.Core.Option.{some}
-use lib.ListN.{length, take, drop, set, get_or, get_elem?, length-append, length-drop}
+use Rattle.std.specs.Prelude.{Some}
+use lib.ListN.{length, take, drop, set, get_or, length-append, length-drop}
+use Rattle.std.specs.Prelude.{slice_get}
 use lib.Seq.{sets, length-sets, sets-eq, take-length, take-suc, length-take-le, take-set-le, take_at, drop_at}
 use lib.Dec.{leb}
 use mir.Syntax.{w64}
@@ -108,7 +109,7 @@ module _ {A : Type 0} (f : ℕ → A → List ℕ) where
       let n : at + length ps - at ≡ length ps = omega arith in
       sym (ap (λ (m : ℕ). take m (drop at d)) n) ∙ sym (drop_take at (at + length ps) d (omega arith) (omega arith)) ∙ ap (drop at) stored ∙ drop_at (take at ks) ps at front
 
-  kept_at : (i : ℕ) (gs : List A) (ks : List ℕ) → capacity * (i + length gs) ≤ length ks → (k : ℕ) (g : A) → get_elem? gs k ≡ some g
+  kept_at : (i : ℕ) (gs : List A) (ks : List ℕ) → capacity * (i + length gs) ≤ length ks → (k : ℕ) (g : A) → slice_get gs k ≡ Some g
       → length (f (i + k) g) ≤ capacity → take (length (f (i + k) g)) (drop (capacity * (i + k)) (keep_each f i gs ks)) ≡ f (i + k) g
   unfolding keep_each
   kept_at i [] ks h k g e few = apart cc
@@ -121,13 +122,13 @@ module _ {A : Type 0} (f : ℕ → A → List ℕ) where
       let n : suc i + k ≡ i + suc k = omega arith in
       rw (← n) (kept_at (suc i) gs _ (omega (arith, keep_length (capacity * i) (f i x) ks)) k g e (rw n few))
 
-  pub kept_part : (gs : List A) (ks : List ℕ) → capacity * length gs ≤ length ks → (k : ℕ) (g : A) → get_elem? gs k ≡ some g
+  pub kept_part : (gs : List A) (ks : List ℕ) → capacity * length gs ≤ length ks → (k : ℕ) (g : A) → slice_get gs k ≡ Some g
       → length (f k g) ≤ capacity → take (length (f k g)) (drop (capacity * k) (keep_each f 0 gs ks)) ≡ f k g
   kept_part gs ks h k g e few = rw (← zero-add k) (kept_at 0 gs ks (omega arith) k g e (rw (zero-add k) few))
 
 -- ---- the same places in the same order
 pub kept_same : {A B : Type 0} (h : A → B) (f : ℕ → B → List ℕ) (f' : ℕ → A → List ℕ) (i : ℕ) (gs : List A) (ks : List ℕ)
-    → ((k : ℕ) (g : A) → get_elem? gs k ≡ some g → f (i + k) (h g) ≡ f' (i + k) g) → keep_each f i (map h gs) ks ≡ keep_each f' i gs ks
+    → ((k : ℕ) (g : A) → slice_get gs k ≡ Some g → f (i + k) (h g) ≡ f' (i + k) g) → keep_each f i (map h gs) ks ≡ keep_each f' i gs ks
 unfolding keep_each
 kept_same h f f' i [] ks w = refl
 kept_same h f f' i (g ∷ gs) ks w =

@@ -5,7 +5,7 @@ use native.Mathlib.Omega.{arith}
 use mathlib.Core.Path.{◌≡◌, refl, sym, ap, ◌∙◌}
 use mathlib.Core.Bool.{Bool, true, false}
 use mathlib.Core.List.{List, [], ◌∷◌, ◌++◌}
-use mathlib.Core.Option.{Option, none, some}
+use Rattle.std.specs.Prelude.{Option, None, Some}
 use lib.ListN.{length, drop, get_or, length-drop}
 use lib.Dec.{eqb}
 use borrow.Author.Tests.{lt-ltb, le-ltb, eqb-true}
@@ -87,10 +87,10 @@ in_block s stop last got (e ∷ es) a q ps u at r =
     let rest : es ≡ elements_from (past_end s x.0) (drop (past_end s x.0) s) = cc in
     let first : e ≡ record { at = a; bytes = part s a x.0; last = last_of_line s x.0 } = cc in
     let here : e.at ≡ a = λ i. (first i).at in
-    go h here (past_end s x.0) (omega (arith, x.1.low)) (λ p n m f. in_block s stop (some p) (insert_covered p n m got) es (past_end s x.0) rest ps u at f) (said last e.bytes) refl)
+    go h here (past_end s x.0) (omega (arith, x.1.low)) (λ p n m f. in_block s stop (Some p) (insert_covered p n m got) es (past_end s x.0) rest ps u at f) (said last e.bytes) refl)
     (λ h. let w : e ∷ es ≡ [] = q ∙ elements_last s a h in apart cc)
   where
-    go : a < length s → e.at ≡ a → (b : ℕ) → a ≤ b → ((p n m : ℕ) → read_from stop (some p) (insert_covered p n m got) es ≡ block ps u at → Behind s b at)
+    go : a < length s → e.at ≡ a → (b : ℕ) → a ≤ b → ((p n m : ℕ) → read_from stop (Some p) (insert_covered p n m got) es ≡ block ps u at → Behind s b at)
         → (x : Said) → said last e.bytes ≡ x → Behind s a at
     go h here b l f (covers p n m) y = let v = f p n m (sym (read_covers stop last got e es p n m y) ∙ r) in record { low = omega (arith, v.low); high = v.high }
     go h here b l f (purge t) y =
@@ -121,13 +121,13 @@ end_is (b ∷ (c ∷ (d ∷ t))) e = let f = and_right (eqb c 36) false (and_rig
 -- it would be one element, and a wrong one
 end_wrong : (last : Option ℕ) → said last (36 ∷ (36 ∷ [])) ≡ wrong
 unfolding said short numbers exactly begins
-end_wrong none = refl
-end_wrong (some p) = refl
+end_wrong None = refl
+end_wrong (Some p) = refl
 
 blank_wrong : (last : Option ℕ) → said last [] ≡ wrong
 unfolding said short numbers exactly begins
-blank_wrong none = refl
-blank_wrong (some p) = refl
+blank_wrong None = refl
+blank_wrong (Some p) = refl
 
 first_long : (b : ℕ) (t : List ℕ) → 1 ≤ length (first_piece dash (b ∷ t))
 unfolding first_piece
@@ -187,7 +187,7 @@ module _ (stop : ℕ) (ps : List ℕ) (u : Stamp) (at : ℕ) where
           → (y : Said) → said last x ≡ y → Turn (k + suc (length t)) after
       go f (covers p n m) y =
           wider (k + length x + length r) (k + suc (length t)) after (omega (arith, total))
-          (f r (omega (arith, total, first_long b t)) (k + length x) (some p) (insert_covered p n m got) after (sym (read_covers stop last got one rest p n m y) ∙ read))
+          (f r (omega (arith, total, first_long b t)) (k + length x) (Some p) (insert_covered p n m got) after (sym (read_covers stop last got one rest p n m y) ∙ read))
       go f (purge v) y =
           let z : block got v k ≡ block ps u at = ended_at (null (pieces dash r)) (block got v k) (k + length x) ps u at (sym (read_purge_lem stop last got one rest v y) ∙ read) in
           let same : k ≡ at = cc in
@@ -240,5 +240,5 @@ unfolding read_block
 block_skips s a at h e = found (read_block s a) refl e
   where
     found : (x : Read) → read_block s a ≡ x → purge_place x ≡ ok at → from_first is_end (lines_on s a) ≡ from_first is_end (lines_on s (next_of s at))
-    found (block ps u p) q e = let n : p ≡ at = cc in rw (← n) (skips (length s) ps u p s (length s) a (omega arith) h none [] q)
+    found (block ps u p) q e = let n : p ≡ at = cc in rw (← n) (skips (length s) ps u p s (length s) a (omega arith) h None [] q)
     found (wrong_at p) q e = apart cc

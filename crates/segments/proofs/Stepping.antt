@@ -5,7 +5,7 @@ use native.Mathlib.Numerals.{add-one}
 use native.Mathlib.Omega.{arith}
 use mathlib.Core.Path.{◌≡◌, refl, sym, ap, ap₂, ◌∙◌}
 use mathlib.Core.List.{List, [], ◌∷◌, ◌++◌, append_assoc, append-nil}
-use mathlib.Core.Option.{some}
+use Rattle.std.specs.Prelude.{Some}
 use lib.ListN.{length, take, drop, set, length-set, take-append-drop}
 use lib.Seq.{length-take-le, take-suc-set, drop-drop}
 use Rattle.laws.proofs.Tests.{apart}
@@ -44,7 +44,7 @@ use Rattle.segments.proofs.Purges.{past_is, block_behind, block_skips}
 use Rattle.segments.proofs.Keeping.{kept_length_lem, kept_more}
 
 -- ---- the segment that starts at a
-module _ (s : List ℕ) (issue : ℕ) (o : Span) (eo : span_at s o.start ≡ some o) (c : Content) (ec : c ≡ content_for (placed_at s issue o.start)) where
+module _ (s : List ℕ) (issue : ℕ) (o : Span) (eo : span_at s o.start ≡ Some o) (c : Content) (ec : c ≡ content_for (placed_at s issue o.start)) where
   abbrev a : ℕ
   a = o.start
 
@@ -130,7 +130,7 @@ module _ (s : List ℕ) (issue left from : ℕ) (f : Found) (ef : found_lines s 
   step_nothing q = record { same = none_left left q; room = λ g e. apart cc; few = λ g e. apart cc }
 
   module _ (i : Inside s from f) (o : Span) (q : f ≡ found.Line o) where
-    pub step_line : span_at s o.start ≡ some o
+    pub step_line : span_at s o.start ≡ Some o
     step_line = let v : LineFrom s from o = rw q at i in v.is
 
     lines_are : from_first opens (lines_on s from) ≡ lines_on s o.start

@@ -1,6 +1,6 @@
 -- Serves the code: what its search over lines and the answer of it mean.
 use Rattle.std.specs.Prelude.{ℕ, zero, suc, ◌≤◌, ◌≡◌, List, [], Bool, true, cond, ◌&&◌, ◌||◌, drop, get_or, eqb, ltb}
-use Rattle.std.proofs.Math.Option.{Option, none, some}
+use Rattle.std.specs.Prelude.{Option, None, Some}
 use Rattle.lines.specs.Bytes.{capital, digit}
 use Rattle.lines.specs.Lines as lines
 use Rattle.lines.specs.Lines.{lines_from, blank, is_end}
@@ -46,13 +46,13 @@ found_lines text (Line l) = lines_on text l.start
 
 -- the place after the line that starts at `at`; `at` itself, where none does
 abbrev pub next_in : ℕ → Option Span → ℕ
-next_in at none = at
-next_in at (some l) = l.next
+next_in at None = at
+next_in at (Some l) = l.next
 
 -- a line that was found is a line of the text, from `from` on
 pub record LineFrom (text : List ℕ) (from : ℕ) (l : Span) : Type 0 where
   pub low : from ≤ l.start
-  pub is : span_at text l.start ≡ some l
+  pub is : span_at text l.start ≡ Some l
 
 abbrev pub Inside : List ℕ → ℕ → Found → Type 0
 Inside text from Nothing = Unit {0}

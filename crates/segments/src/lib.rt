@@ -2,7 +2,7 @@
 #![tactic(auto)]
 
 ghost use Rattle.std.specs.Prelude.{◌≡◌, ◌≤◌, length};
-ghost use Rattle.std.proofs.Math.Option.{some};
+ghost use Rattle.std.specs.Prelude.{Some};
 ghost use Rattle.codes.specs.Places.{capacity};
 ghost use Rattle.lines.specs.Spans.{span_at};
 ghost use Rattle.lines.specs.Lines.{opens};
@@ -196,7 +196,7 @@ fn keep(kept: &mut [u32], at: usize, places: &[u32])
 
 // The segment that a line of the text opens; its places are kept from `at` on.
 fn read_segment(text: &[u8], opening: Span, issue: usize, kept: &mut [u32], at: usize) -> Next
-    requires start_value { span_at text.now opening.start ≡ some opening }
+    requires start_value { span_at text.now opening.start ≡ Some opening }
     requires at_bound { at ≤ 960 }
     ensures is { Begun text.now issue opening.start result }
     ensures kept { kept.new ≡ kept_by text.now issue at result kept.old }

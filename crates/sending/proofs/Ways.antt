@@ -4,7 +4,7 @@ use native.Mathlib.Omega.{arith}
 use mathlib.Core.Path.{◌≡◌, refl, sym, ap, ap₂, ◌∙◌}
 use mathlib.Core.Bool.{Bool, true, false, ◌&&◌}
 use mathlib.Core.List.{List, ◌++◌}
-use mathlib.Core.Option.{Option, none, some}
+use Rattle.std.specs.Prelude.{Option, None, Some}
 use lib.ListN.{length, take, drop, get_or, length-map, take-append-drop}
 use lib.Seq.{length-take-le}
 use lib.Dec.{eqb, leb}
@@ -121,11 +121,11 @@ module _ (text l before : List ℕ) where
           pub edited_undated : x ≡ dated.Nothing → (r : Written) → r ≡ written.Refused (refusal_for wrong_time 0) → WritesEdited text l before before r
           unfolding and_then
           edited_undated q r f =
-              ruled before r (refused wrong_time 0) (rule_read (refused wrong_time 0) (under none (ap paper_dated (sym q) ∙ e))) (ap paper_written f) refl
+              ruled before r (refused wrong_time 0) (rule_read (refused wrong_time 0) (under None (ap paper_dated (sym q) ∙ e))) (ap paper_written f) refl
 
       module _ (n : ℕ) (d : Date) (o : IssueOn l n d) (b : Bulletin) (reads : Reads text d.year d.month b) where
         under_date : read_under text (date_of (book_of l).issue) ≡ read_bulletin text d.year d.month
-        under_date = under n o.is (some d) o.on
+        under_date = under n o.is (Some d) o.on
 
         pub edited_unread : (r : Refusal) → b.reading ≡ reading.Refused r → WritesEdited text l before before (written.Refused r)
         unfolding and_then

@@ -1,6 +1,6 @@
 -- Document 02, R-1: the rule of the call that writes the edited bulletin out.
 use Rattle.std.specs.Prelude.{ℕ, ◌≡◌, List, Bool, ◌&&◌, length, eqb}
-use Rattle.std.proofs.Math.Option.{Option, none, some}
+use Rattle.std.specs.Prelude.{Option, None, Some}
 use Rattle.refusal.specs.Numbers.{wrong_length, wrong_time, not_sound, not_belonging}
 use Rattle.refusal.specs.Answer.{Answer, refused, must, and_then}
 use Rattle.calendar.specs.Calendar.{date_of}
@@ -16,8 +16,8 @@ use Rattle.forms.specs.Edited.{edited, ends_in, written_forms}
 
 -- "The text is read afresh under the year and month of the book's issue minute": a sound book's has both (`sound_dated`).
 abbrev pub read_under : List ℕ → Option Date → Answer Bulletin
-read_under text none = refused wrong_time 0
-read_under text (some d) = read_bulletin text d.year d.month
+read_under text None = refused wrong_time 0
+read_under text (Some d) = read_bulletin text d.year d.month
 
 -- "it belongs to the book if it reads, and its issue and segment count agree"
 unfoldable pub belongs : Book → Bulletin → Bool

@@ -1,6 +1,6 @@
 -- Serves the code: the date of a sound book's issue, and a text that was read under its year and month and belongs to the book.
 use Rattle.std.specs.Prelude.{◌≡◌, true, List, map, ℕ}
-use Rattle.std.proofs.Math.Option.{some}
+use Rattle.std.specs.Prelude.{Some}
 use Rattle.refusal.specs.Answer.{ok}
 use Rattle.calendar.specs.Calendar.{date_of}
 use Rattle.calendar.specs.declared.Date.{Date}
@@ -15,12 +15,12 @@ use Rattle.sending.specs.Send.{belongs}
 -- a book's issue minute, and the date of that
 pub record IssueOn (l : List ℕ) (issue : ℕ) (date : Date) : Type 0 where
   pub is : issue ≡ number_at l 0
-  pub on : some date ≡ date_of issue
+  pub on : Some date ≡ date_of issue
 
 -- these are the segments of such a text
 pub record Belonging (text l : List ℕ) (gs : Segments) : Type 0 where
   pub date : Date
-  pub dated : date_of (book_of l).issue ≡ some date
+  pub dated : date_of (book_of l).issue ≡ Some date
   pub said : rule.Bulletin
   pub read : read_bulletin text date.year date.month ≡ ok said
   pub agrees : belongs (book_of l) said ≡ true

@@ -6,7 +6,7 @@ use native.Mathlib.Omega.{arith}
 use mathlib.Core.Path.{◌≡◌, refl, sym, ap, ap₂, subst, ◌∙◌}
 use mathlib.Core.List.{List, ◌∷◌, ◌++◌, append_assoc}
 use mathlib.Core.Bool.{Bool, true, false, ◌&&◌}
-use mathlib.Core.Option.{none, some}
+use Rattle.std.specs.Prelude.{None, Some}
 use lib.ListN.{length, get_or, take, drop, replicate, take-append-drop, set, length-set, length-append, length-drop}
 use lib.Seq.{paste, take-add, paste-zero, paste-suc, length-paste, length-take-le, take-append-le, take-take, take_all, take_at, drop_at, drop-drop}
 use lib.Dec.{ltb}
@@ -135,24 +135,24 @@ module _ (held₀ held : List ℕ) (at n p k q : ℕ) (v : Filling held₀ held 
       ∙ ap (λ (m : ℕ). paste held₀ at (upward p m) n) (sym e)
 
 -- ---- at most 120
-pub capped_few : (l : List ℕ) → length l ≤ 120 → capped l ≡ some l
+pub capped_few : (l : List ℕ) → length l ≤ 120 → capped l ≡ Some l
 unfolding capped
 capped_few l h = rw (le-leb (length l) 120 h)
 
-pub capped_many : (l : List ℕ) → 120 < length l → capped l ≡ none
+pub capped_many : (l : List ℕ) → 120 < length l → capped l ≡ None
 unfolding capped
 capped_many l h = rw (lt-leb (length l) 120 h)
 
 -- what is held says how many there are, and which
 module _ (over : Bool) (t : Places) (l : List ℕ) (h : held_by over t ≡ capped l) where
   pub held_many : over ≡ true → 120 < length l
-  held_many o = by_order 120 (length l) (λ k. k) (λ k. let f : none ≡ some l = rw o at h ∙ capped_few l k in apart cc)
+  held_many o = by_order 120 (length l) (λ k. k) (λ k. let f : None ≡ Some l = rw o at h ∙ capped_few l k in apart cc)
 
   pub held_few : over ≡ false → length l ≤ 120
-  held_few o = by_order 120 (length l) (λ k. let f : some (places_in t) ≡ none = rw o at h ∙ capped_many l k in apart cc) (λ k. k)
+  held_few o = by_order 120 (length l) (λ k. let f : Some (places_in t) ≡ None = rw o at h ∙ capped_many l k in apart cc) (λ k. k)
 
   pub held_is : over ≡ false → places_in t ≡ l
-  held_is o = let f : some (places_in t) ≡ some l = rw o at h ∙ capped_few l (held_few o) in cc
+  held_is o = let f : Some (places_in t) ≡ Some l = rw o at h ∙ capped_few l (held_few o) in cc
 
 -- behind more places too there are zeros
 rest_more : (held : List ℕ) (count total : ℕ) → count ≤ total → drop count held ≡ drop count vacant → drop total held ≡ drop total vacant

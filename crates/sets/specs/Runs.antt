@@ -1,7 +1,7 @@
 -- Serves the code: what the functions of this crate say while a run is put in. Of a lent array the first `count` numbers are the places held.
 -- Only the reading of a block builds on it.
 use Rattle.std.specs.Prelude.{ℕ, ◌-◌, ◌≡◌, List, [], ◌∷◌, Bool, true, false, cond, ◌&&◌, ◌||◌, length, take, ltb, leb}
-use Rattle.std.proofs.Math.Option.{Option, none, some}
+use Rattle.std.specs.Prelude.{Option, None, Some}
 use Rattle.laws.specs.Lists.{every}
 use Rattle.codes.specs.Places.{capacity}
 use Rattle.codes.specs.Block.{insert_run}
@@ -12,15 +12,15 @@ use Rattle.sets.specs.declared.Put.TheVariants as put
 
 -- at most 120 places, or none: there are more
 unfoldable pub capped : List ℕ → Option (List ℕ)
-capped l = cond (leb (length l) capacity) (some l) none
+capped l = cond (leb (length l) capacity) (Some l) None
 
 -- what an array and a count hold, or the mark that there are more
 abbrev pub kept : List ℕ → ℕ → Places
 kept held count = record { held = held; count = count }
 
 abbrev pub held_by : Bool → Places → Option (List ℕ)
-held_by true t = none
-held_by false t = some (places_in t)
+held_by true t = None
+held_by false t = Some (places_in t)
 
 -- what they hold after a run was put in: a new count, or what they held before
 abbrev pub held_after : List ℕ → ℕ → Put → Places

@@ -3,7 +3,7 @@ use Prim.Native.Nat.{ℕ}
 use mathlib.Core.Path.{◌≡◌, refl, sym, ◌∙◌, ap}
 use mathlib.Core.Bool.{Bool, true, false, not, cond, ◌||◌, or-true, true≢false}
 use mathlib.Core.List.{List, [], ◌∷◌, ◌++◌}
-use mathlib.Core.Option.{Option, none, some}
+use Rattle.std.specs.Prelude.{Option, None, Some}
 use lib.Dec.{eqb, ltb}
 use lib.ListN.{length}
 use borrow.Author.Tests.{eq-eqb, ne_eqb}
@@ -48,12 +48,12 @@ has_recopy x s c [] = refl
 has_recopy x s c (k ∷ ks) = ap (λ (r : Bool). eqb x k.segment || r) (has_recopy x s c ks)
 
 -- where no copy is found, none is there
-pub copy_none : (s : ℕ) (ks : List Copy) → copy_of s ks ≡ none → has s ks ≡ false
+pub copy_none : (s : ℕ) (ks : List Copy) → copy_of s ks ≡ None → has s ks ≡ false
 unfolding copy_of has
 copy_none s [] e = refl
 copy_none s (k ∷ ks) e = go (eqb s k.segment) e (copy_none s ks)
   where
-    go : (q : Bool) → cond q (some k.held) (copy_of s ks) ≡ none → (copy_of s ks ≡ none → has s ks ≡ false) → (q || has s ks) ≡ false
+    go : (q : Bool) → cond q (Some k.held) (copy_of s ks) ≡ None → (copy_of s ks ≡ None → has s ks ≡ false) → (q || has s ks) ≡ false
     go true f g = apart cc
     go false f g = g f
 
@@ -86,8 +86,8 @@ on_worked b d s w ks stale e = rw e (go (at b.segments s) (in_range w))
         → and_then (must r out_of_range 0) (λ _. and_then (must_find held no_such_segment) λ c. and_then (work_rule b.issue s c w ks) (leaving b d stale))
         ≡ acted b d stale (ranged b.issue s held w ks r)
     go held false = refl
-    go none true = refl
-    go (some c) true = refl
+    go None true = refl
+    go (Some c) true = refl
 
 -- an edit changes no number of a copy
 edits_has : (s x : ℕ) (ks : List Copy) (r : Answer (Value × Content)) → has x ks ≡ true
@@ -114,8 +114,8 @@ works_has i s c taking ks x h = takes_has s x c ks (has s ks) (ltb (length ks) 2
 works_has i s c (editing e) ks x h = go (copy_of s ks)
   where
     go : (o : Option Content) → has x (after ks (and_then (must_find o not_taken) λ k. and_then (edit_rule i e k) λ r. ok (r.0, recopy s r.1 ks))) ≡ true
-    go none = h
-    go (some k) = edits_has s x ks (edit_rule i e k) h
+    go None = h
+    go (Some k) = edits_has s x ks (edit_rule i e k) h
 
 -- after any work it has what it had
 work_has : (i s : ℕ) (o : Option Content) (w : Work) (ks : List Copy) (x : ℕ) → has x ks ≡ true → has x (after ks (worked i s o w ks)) ≡ true
@@ -124,18 +124,18 @@ work_has i s o w ks x h = go o (in_range w)
   where
     go : (o : Option Content) (r : Bool) → has x (after ks (ranged i s o w ks r)) ≡ true
     go o false = h
-    go none true = h
-    go (some c) true = works_has i s c w ks x h
+    go None true = h
+    go (Some c) true = works_has i s c w ks x h
 
 -- ---- work looks at the book's segment only to see whether it is there, or to take it
-takes_frame : (s : ℕ) (c d : Content) (ks : List Copy) (there room : Bool) → (has s (after ks (takes s c ks there room)) ≡ true → some d ≡ some c)
+takes_frame : (s : ℕ) (c d : Content) (ks : List Copy) (there room : Bool) → (has s (after ks (takes s c ks there room)) ≡ true → Some d ≡ Some c)
     → takes s d ks there room ≡ takes s c ks there room
 unfolding takes and_then
 takes_frame s c d ks true room h = refl
 takes_frame s c d ks false false h = refl
 takes_frame s c d ks false true h = let e : d ≡ c = some_same (h (has_last s c ks)) in ap (λ (y : Content). takes s y ks false true) e
 
-works_frame : (i s : ℕ) (c d : Content) (w : Work) (ks : List Copy) → (has s (after ks (work_rule i s c w ks)) ≡ true → some d ≡ some c)
+works_frame : (i s : ℕ) (c d : Content) (w : Work) (ks : List Copy) → (has s (after ks (work_rule i s c w ks)) ≡ true → Some d ≡ Some c)
     → work_rule i s d w ks ≡ work_rule i s c w ks
 unfolding work_rule takes
 works_frame i s c d taking ks h = takes_frame s c d ks (has s ks) (ltb (length ks) 2) h
@@ -149,10 +149,10 @@ work_frame i s o p w ks e h = go o p (in_range w) e h
     go : (o p : Option Content) (r : Bool) → is_some p ≡ is_some o → (has s (after ks (ranged i s o w ks r)) ≡ true → p ≡ o)
         → ranged i s p w ks r ≡ ranged i s o w ks r
     go o p false e h = refl
-    go none none true e h = refl
-    go none (some d) true e h = cc
-    go (some c) none true e h = cc
-    go (some c) (some d) true e h = works_frame i s c d w ks h
+    go None None true e h = refl
+    go None (Some d) true e h = cc
+    go (Some c) None true e h = cc
+    go (Some c) (Some d) true e h = works_frame i s c d w ks h
 
 -- where the segments agree at all that the draft has after the work, the work is the same
 pub work_agree : (i s : ℕ) (w : Work) (ks : List Copy) (l m : List Content) → Agree (after ks (worked i s (at l s) w ks)) l m

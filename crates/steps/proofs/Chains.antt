@@ -1,7 +1,7 @@
 -- Chains of tests, taken apart: what holds of every acceptance of a rule. Assumes nothing.
 use mathlib.Core.Path.{◌≡◌, refl}
 use mathlib.Core.Bool.{Bool, true, false, cond}
-use mathlib.Core.Option.{Option, none, some}
+use Rattle.std.specs.Prelude.{Option, None, Some}
 use Rattle.refusal.specs.Numbers.{Reason}
 use Rattle.refusal.specs.Answer.{Answer, ok, refused, must, and_then}
 use Rattle.steps.specs.Calls.{Value, must_find, settle}
@@ -19,10 +19,10 @@ module _ {B : Type 0} {P : B → Type 0} where
   told_must false r f h = told_no r
 
   -- what was sought is known to be there
-  pub told_find : {A : Type 0} (o : Option A) (r : Reason) (f : A → Answer B) → ((x : A) → o ≡ some x → Told P (f x)) → Told P (and_then (must_find o r) f)
+  pub told_find : {A : Type 0} (o : Option A) (r : Reason) (f : A → Answer B) → ((x : A) → o ≡ Some x → Told P (f x)) → Told P (and_then (must_find o r) f)
   unfolding and_then
-  told_find none r f h = told_no r
-  told_find (some x) r f h = h x refl
+  told_find None r f h = told_no r
+  told_find (Some x) r f h = h x refl
 
   -- after another rule
   pub told_then : {A : Type 0} {Q : A → Type 0} (r : Answer A) (f : A → Answer B) → Told Q r → ((x : A) → Q x → Told P (f x)) → Told P (and_then r f)

@@ -1,7 +1,7 @@
 -- What a call leaves as it was: a refused one leaves the book, and one that reads leaves the copy. Assumes nothing.
 use Prim.Native.Nat.{ℕ}
 use mathlib.Core.Path.{◌≡◌, refl}
-use lib.ListN.{get_elem?}
+use Rattle.std.specs.Prelude.{slice_get}
 use Rattle.laws.proofs.Tests.{apart}
 use Rattle.refusal.specs.Numbers.{out_of_range}
 use Rattle.refusal.specs.Answer.{Answer, ok, no}
@@ -39,7 +39,7 @@ pub read_told : (issue : ℕ) {e : Edit} → Reads e → (c : Content) → Told 
 unfolding edit_rule
 read_told issue reads_purge c = told_ok _ refl
 read_told issue reads_count c = told_ok _ refl
-read_told issue (reads_place i) c = told_find (get_elem? c.places i) out_of_range _ (λ p e. told_ok _ refl)
+read_told issue (reads_place i) c = told_find (slice_get c.places i) out_of_range _ (λ p e. told_ok _ refl)
 
 -- accepted or refused
 pub read_leaves : (issue : ℕ) {e : Edit} → Reads e → (c : Content) → (edited issue e c).1 ≡ c

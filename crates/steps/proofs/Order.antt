@@ -3,8 +3,9 @@ use Prim.Native.Nat.{ℕ}
 use mathlib.Core.Path.{◌≡◌, refl}
 use mathlib.Core.Bool.{Bool, true, false}
 use mathlib.Core.List.{List, [], ◌∷◌, ◌++◌}
-use mathlib.Core.Option.{none, some}
-use lib.ListN.{length, get_elem?}
+use Rattle.std.specs.Prelude.{None, Some}
+use lib.ListN.{length}
+use Rattle.std.specs.Prelude.{slice_get}
 use lib.Dec.{ltb, eqb}
 use Rattle.refusal.specs.Numbers.{wrong_time, no_draft, all_open, no_such_segment, not_taken, taken_already, two_taken, segment_full, only_place, stale_draft, no_step, out_of_range}
 use Rattle.refusal.specs.Answer.{ok, no, refused, and_then}
@@ -17,11 +18,11 @@ use Rattle.steps.specs.Calls.{Edit, read_place, add, remove, set_purge, Work, ta
 
 -- ---- the edit's own: 5, 19, 20, 24 (index)
 module _ (issue : ℕ) (c : Content) where
-  pub index_past : (i : ℕ) → get_elem? c.places i ≡ none → edit_rule issue (read_place i) c ≡ refused out_of_range 0
+  pub index_past : (i : ℕ) → slice_get c.places i ≡ None → edit_rule issue (read_place i) c ≡ refused out_of_range 0
   unfolding edit_rule and_then
   index_past i e = rw e
 
-  pub index_there : (i p : ℕ) → get_elem? c.places i ≡ some p → edit_rule issue (read_place i) c ≡ ok (number p, c)
+  pub index_there : (i p : ℕ) → slice_get c.places i ≡ Some p → edit_rule issue (read_place i) c ≡ ok (number p, c)
   unfolding edit_rule and_then
   index_there i p e = rw e
 
@@ -51,11 +52,11 @@ module _ (issue : ℕ) (c : Content) where
   unfolding edit_rule and_then
   remove_there p e f = rw (e, f)
 
-  pub purge_none : (t : Stamp) → purge_of issue t ≡ none → edit_rule issue (set_purge t) c ≡ refused wrong_time 0
+  pub purge_none : (t : Stamp) → purge_of issue t ≡ None → edit_rule issue (set_purge t) c ≡ refused wrong_time 0
   unfolding edit_rule and_then
   purge_none t e = rw e
 
-  pub purge_given : (t : Stamp) (m : ℕ) → purge_of issue t ≡ some m → edit_rule issue (set_purge t) c ≡ ok (number m, record { purge = m; places = c.places })
+  pub purge_given : (t : Stamp) (m : ℕ) → purge_of issue t ≡ Some m → edit_rule issue (set_purge t) c ≡ ok (number m, record { purge = m; places = c.places })
   unfolding edit_rule and_then
   purge_given t m e = rw e
 
@@ -83,11 +84,11 @@ module _ (b : Book) (d : ℕ) where
       unfolding book_rule and_then
       on_far w r = rw (opened, r)
 
-      pub on_gone : (w : Work) → in_range w ≡ true → at b.segments s ≡ none → book_rule b (on d s w) ≡ refused no_such_segment 0
+      pub on_gone : (w : Work) → in_range w ≡ true → at b.segments s ≡ None → book_rule b (on d s w) ≡ refused no_such_segment 0
       unfolding book_rule and_then
       on_gone w r e = rw (opened, r, e)
 
-      module _ (c : Content) (there : at b.segments s ≡ some c) where
+      module _ (c : Content) (there : at b.segments s ≡ Some c) where
         pub on_again : has s ks ≡ true → book_rule b (on d s taking) ≡ refused taken_already 0
         unfolding book_rule work_rule and_then
         on_again h = rw (opened, there, h)
@@ -102,11 +103,11 @@ module _ (b : Book) (d : ℕ) where
         on_taken h g = rw (opened, there, h, g)
 
         module _ (e : Edit) (r : in_range (editing e) ≡ true) where
-          pub on_absent : copy_of s ks ≡ none → book_rule b (on d s (editing e)) ≡ refused not_taken 0
+          pub on_absent : copy_of s ks ≡ None → book_rule b (on d s (editing e)) ≡ refused not_taken 0
           unfolding book_rule work_rule and_then
           on_absent q = rw (opened, r, there, q)
 
-          module _ (k : Content) (copied : copy_of s ks ≡ some k) where
+          module _ (k : Content) (copied : copy_of s ks ≡ Some k) where
             pub on_refused : (n p : ℕ) → edit_rule b.issue e k ≡ no n p → book_rule b (on d s (editing e)) ≡ no n p
             unfolding book_rule work_rule and_then
             on_refused n p q = rw (opened, r, there, copied, q)
@@ -117,10 +118,10 @@ module _ (b : Book) (d : ℕ) where
             on_edited v x q = rw (opened, r, there, copied, q)
 
       -- where two faults meet: an index is looked at after the segment and the copy, though a place and a time are looked at before them
-      pub index_gone : (i : ℕ) → at b.segments s ≡ none → book_rule b (on d s (editing (read_place i))) ≡ refused no_such_segment 0
+      pub index_gone : (i : ℕ) → at b.segments s ≡ None → book_rule b (on d s (editing (read_place i))) ≡ refused no_such_segment 0
       index_gone i e = on_gone (editing (read_place i)) refl e
 
-      pub index_absent : (i : ℕ) (c : Content) → at b.segments s ≡ some c → copy_of s ks ≡ none
+      pub index_absent : (i : ℕ) (c : Content) → at b.segments s ≡ Some c → copy_of s ks ≡ None
           → book_rule b (on d s (editing (read_place i))) ≡ refused not_taken 0
       index_absent i c e q = on_absent c e (read_place i) refl q
 
@@ -137,18 +138,18 @@ module _ (b : Book) (d : ℕ) (ks : List Copy) where
 
 -- 14, 22
 module _ (b : Book) where
-  pub open_none : lowest 1 b.drafts ≡ none → book_rule b opening ≡ refused all_open 0
+  pub open_none : lowest 1 b.drafts ≡ None → book_rule b opening ≡ refused all_open 0
   unfolding book_rule and_then
   open_none e = rw e
 
-  pub open_lowest : (d : ℕ) → lowest 1 b.drafts ≡ some d → book_rule b opening ≡ ok (draft d, with_drafts b (put b.drafts d (working [] false)))
+  pub open_lowest : (d : ℕ) → lowest 1 b.drafts ≡ Some d → book_rule b opening ≡ ok (draft d, with_drafts b (put b.drafts d (working [] false)))
   unfolding book_rule and_then
   open_lowest d e = rw e
 
-  pub undo_none : newest b.history.kept ≡ none → book_rule b undo ≡ refused no_step 0
+  pub undo_none : newest b.history.kept ≡ None → book_rule b undo ≡ refused no_step 0
   unfolding book_rule and_then
   undo_none e = rw e
 
-  pub undo_newest : (cs : List Copy) → newest b.history.kept ≡ some cs → book_rule b undo ≡ ok (changed (segments_named cs), undone b cs)
+  pub undo_newest : (cs : List Copy) → newest b.history.kept ≡ Some cs → book_rule b undo ≡ ok (changed (segments_named cs), undone b cs)
   unfolding book_rule and_then
   undo_newest cs e = rw e

@@ -3,8 +3,9 @@ use Prim.Native.Nat.{ℕ, zero, suc}
 use mathlib.Core.Path.{◌≡◌, refl, sym, ◌∙◌, ap}
 use mathlib.Core.Bool.{Bool, true, false}
 use mathlib.Core.List.{List, [], ◌∷◌, map}
-use mathlib.Core.Option.{Option, none, some}
-use lib.ListN.{get_elem?, set}
+use Rattle.std.specs.Prelude.{Option, None, Some}
+use lib.ListN.{set}
+use Rattle.std.specs.Prelude.{slice_get}
 use lib.Dec.{eqb, eqb-suc-suc}
 use borrow.Author.Tests.{eqb-true, eqb-false}
 use Rattle.laws.proofs.Lookups.{get_other}
@@ -12,8 +13,8 @@ use Rattle.steps.specs.Book.{Copy, Draft, closed, working, at, put, or_closed, d
 
 -- is anything there?
 abbrev pub is_some : {A : Type 0} → Option A → Bool
-is_some none = false
-is_some (some a) = true
+is_some None = false
+is_some (Some a) = true
 
 -- ---- any list
 module _ {A : Type 0} where
@@ -24,7 +25,7 @@ module _ {A : Type 0} where
   at_put_other xs (suc d) (suc e) x h = get_other xs d e x (eqb-false e d (sym (eqb-suc-suc e d) ∙ h))
 
   -- a store makes no number and takes none away
-  nth_set_some : (xs : List A) (d e : ℕ) (x : A) → is_some (get_elem? (set xs d x) e) ≡ is_some (get_elem? xs e)
+  nth_set_some : (xs : List A) (d e : ℕ) (x : A) → is_some (slice_get (set xs d x) e) ≡ is_some (slice_get xs e)
   nth_set_some [] d e x = refl
   nth_set_some (y ∷ ys) zero zero x = refl
   nth_set_some (y ∷ ys) zero (suc e) x = refl
@@ -38,7 +39,7 @@ module _ {A : Type 0} where
 
 -- ---- drafts
 -- a draft that is open where one was stored is what was stored
-nth_set_same : (ds : List Draft) (d : ℕ) (x : Draft) (ks : List Copy) (stale : Bool) → or_closed (get_elem? (set ds d x) d) ≡ working ks stale
+nth_set_same : (ds : List Draft) (d : ℕ) (x : Draft) (ks : List Copy) (stale : Bool) → or_closed (slice_get (set ds d x) d) ≡ working ks stale
     → x ≡ working ks stale
 nth_set_same [] d x ks stale h = cc
 nth_set_same (y ∷ ds) zero x ks stale h = h
@@ -58,7 +59,7 @@ pub draft_put_other : (ds : List Draft) (d e : ℕ) (x : Draft) (ks : List Copy)
 draft_put_other ds d e x ks stale h q = ap or_closed (sym (at_put_other ds d e x q)) ∙ h
 
 -- each draft changed
-nth_map : (f : Draft → Draft) → f closed ≡ closed → (ds : List Draft) (d : ℕ) → or_closed (get_elem? (map f ds) d) ≡ f (or_closed (get_elem? ds d))
+nth_map : (f : Draft → Draft) → f closed ≡ closed → (ds : List Draft) (d : ℕ) → or_closed (slice_get (map f ds) d) ≡ f (or_closed (slice_get ds d))
 nth_map f e [] d = sym e
 nth_map f e (x ∷ ds) zero = refl
 nth_map f e (x ∷ ds) (suc d) = nth_map f e ds d

@@ -4,7 +4,7 @@ use Prim.Native.Nat.{ℕ}
 use mathlib.Core.Path.{◌≡◌, refl, sym, ◌∙◌, ap, subst}
 use mathlib.Core.Bool.{Bool, true, false, cond, true≢false}
 use mathlib.Core.List.{List, [], ◌∷◌, ◌++◌, map}
-use mathlib.Core.Option.{Option, none, some}
+use Rattle.std.specs.Prelude.{Option, None, Some}
 use lib.Dec.{eqb}
 use borrow.Author.Tests.{eqb-true, eq-eqb}
 use Rattle.laws.proofs.Tests.{apart}
@@ -92,8 +92,8 @@ working_stale h = cc
 opens_kept : (b : Book) (past : List Event) → Inv b past → (o : Option ℕ)
     → Kept b past opening (settle b (and_then (must_find o all_open) λ d. ok (draft d, with_drafts b (put b.drafts d (working [] false)))))
 unfolding Inv Runs draft_on and_then
-opens_kept b past v none = record { same = refl; inv = v }
-opens_kept b past v (some n) =
+opens_kept b past v None = record { same = refl; inv = v }
+opens_kept b past v (Some n) =
     record {
       same = refl;
       inv = λ d ks h. split (eqb d n) (λ es. Good b.issue b.segments es ks) _ _
@@ -246,14 +246,14 @@ undoes b o = and_then (must_find o no_step) λ (cs : List Copy). ok (changed (se
 undo_last : (b : Book) (o : Option (List Copy)) → newest b.history.kept ≡ o →
     Runs (alone b) (record { call = undo; answer = (settle b (undoes b o)).0 } ∷ []) (alone (settle b (undoes b o)).1)
 unfolding Runs step book_rule and_then
-undo_last b none e = rw e (refl, refl)
-undo_last b (some cs) e = rw e (refl, refl)
+undo_last b None e = rw e (refl, refl)
+undo_last b (Some cs) e = rw e (refl, refl)
 
 undoes_kept : (b : Book) (past : List Event) → Inv b past → (o : Option (List Copy)) → newest b.history.kept ≡ o →
     Kept b past undo (settle b (undoes b o))
 unfolding Inv draft_on and_then
-undoes_kept b past v none e = record { same = undo_last b none e; inv = v }
-undoes_kept b past v (some cs) e = record { same = undo_last b (some cs) e; inv = λ d ks h. staled_good b past v cs d ks h }
+undoes_kept b past v None e = record { same = undo_last b None e; inv = v }
+undoes_kept b past v (Some cs) e = record { same = undo_last b (Some cs) e; inv = λ d ks h. staled_good b past v cs d ks h }
 
 -- ---- every call, and every history
 step_kept : (b : Book) (past : List Event) → Inv b past → (c : Call) → Kept b past c (step b c)

@@ -1,7 +1,7 @@
 -- Document 01, "The book": what a book holds.
 use Rattle.std.specs.Prelude.{ℕ, zero, suc, Bool, List, [], ◌∷◌, set}
-use Rattle.std.proofs.Math.Option.{Option, none, some}
-use Rattle.std.proofs.Math.ListN.{get_elem?}
+use Rattle.std.specs.Prelude.{Option, None, Some}
+use Rattle.std.specs.Prelude.{slice_get}
 use Rattle.codes.specs.Block.{Content}
 
 -- a segment's number, and a content of it
@@ -26,8 +26,8 @@ pub record Book : Type 0 where
 
 -- ---- what stands at a number, counted from 1
 abbrev pub at : {A : Type 0} → List A → ℕ → Option A
-at xs zero = none
-at xs (suc k) = get_elem? xs k
+at xs zero = None
+at xs (suc k) = slice_get xs k
 
 abbrev pub put : {A : Type 0} → List A → ℕ → A → List A
 put xs zero x = xs
@@ -35,8 +35,8 @@ put xs (suc k) x = set xs k x
 
 -- a draft that is not there is closed
 abbrev pub or_closed : Option Draft → Draft
-or_closed none = closed
-or_closed (some d) = d
+or_closed None = closed
+or_closed (Some d) = d
 
 abbrev pub draft_at : List Draft → ℕ → Draft
 draft_at ds d = or_closed (at ds d)

@@ -1,7 +1,7 @@
 -- Document 01, "Steps", and the order of "Book calls": what each call on a book answers, and the book that it leaves.
 use Rattle.std.specs.Prelude.{ℕ, suc, ◌-◌, Bool, true, false, not, cond, ◌&&◌, ◌||◌, List, [], ◌∷◌, ◌++◌, map, length, take, ltb, eqb}
-use Rattle.std.proofs.Math.Option.{Option, none, some}
-use Rattle.std.proofs.Math.ListN.{get_elem?}
+use Rattle.std.specs.Prelude.{Option, None, Some}
+use Rattle.std.specs.Prelude.{slice_get}
 use Rattle.std.proofs.Math.ListN as list
 use Rattle.refusal.specs.Numbers.{Reason, wrong_time, no_draft, all_open, no_such_segment, not_taken, taken_already, two_taken, segment_full, only_place, stale_draft, no_step, out_of_range}
 use Rattle.refusal.specs.Answer as refusal
@@ -54,8 +54,8 @@ BookAnswer = refusal.Answer Value
 -- ---- refusals: "Each returns its number and a place, changes no lent byte"; "Place is 0 unless stated"
 -- what must be there
 abbrev pub must_find : {A : Type 0} → Option A → Reason → refusal.Answer A
-must_find none reason = refused reason 0
-must_find (some x) reason = ok x
+must_find None reason = refused reason 0
+must_find (Some x) reason = ok x
 
 -- A rule gives a value and what the call leaves in the place of x. What a refused call leaves is x itself.
 abbrev pub settle : {A : Type 0} → A → refusal.Answer (Value × A) → BookAnswer × A
@@ -80,7 +80,7 @@ unfoldable pub edit_rule : ℕ → Edit → Content → refusal.Answer (Value ×
 edit_rule issue read_purge c = ok (number c.purge, c)
 edit_rule issue read_count c = ok (number (length c.places), c)
 edit_rule issue (read_place i) c =
-    and_then (must_find (get_elem? c.places i) out_of_range) λ p.
+    and_then (must_find (slice_get c.places i) out_of_range) λ p.
     ok (number p, c)
 -- "adding one that is there .. is accepted and changes nothing"; 19 for "adding an absent place to 120"
 edit_rule issue (add p) c =
@@ -111,8 +111,8 @@ in_range (editing (set_purge s)) = is_time s
 
 -- the copy of segment s: "only a taken segment has a copy to work on"
 unfoldable pub copy_of : ℕ → List Copy → Option Content
-copy_of s [] = none
-copy_of s (k ∷ ks) = cond (eqb s k.segment) (some k.held) (copy_of s ks)
+copy_of s [] = None
+copy_of s (k ∷ ks) = cond (eqb s k.segment) (Some k.held) (copy_of s ks)
 
 -- the copies with another content of segment s
 unfoldable pub recopy : ℕ → Content → List Copy → List Copy
@@ -154,8 +154,8 @@ stored (c ∷ cs) segments = put (stored cs segments) c.segment c.held
 
 -- ---- commit
 unfoldable pub same_content : Option Content → Content → Bool
-same_content none c = false
-same_content (some b) c = eqb b.purge c.purge && same_list b.places c.places
+same_content None c = false
+same_content (Some b) c = eqb b.purge c.purge && same_list b.places c.places
 
 unfoldable pub insert_copy : Copy → List Copy → List Copy
 insert_copy k [] = k ∷ []
@@ -167,8 +167,8 @@ changes segments [] = []
 changes segments (k ∷ ks) = cond (same_content (at segments k.segment) k.held) (changes segments ks) (insert_copy k (changes segments ks))
 
 abbrev pub or_else : Option Content → Content → Content
-or_else none c = c
-or_else (some b) c = b
+or_else None c = c
+or_else (Some b) c = b
 
 -- what the segments of these copies hold in the book: "their old blocks"
 abbrev pub old_of : List Content → Copy → Copy
@@ -195,8 +195,8 @@ with_drafts b ds = record { issue = b.issue; segments = b.segments; drafts = ds;
 
 -- "Open: gives the lowest closed number 1..4"
 unfoldable pub lowest : ℕ → List Draft → Option ℕ
-lowest n [] = none
-lowest n (closed ∷ ds) = some n
+lowest n [] = None
+lowest n (closed ∷ ds) = Some n
 lowest n (working ks stale ∷ ds) = lowest (suc n) ds
 
 -- the changes are stored, "with or without a change the draft closes"
@@ -210,7 +210,7 @@ committed b d cs =
     }
 
 unfoldable pub newest : List (List Copy) → Option (List Copy)
-newest steps = get_elem? steps (length steps - 1)
+newest steps = slice_get steps (length steps - 1)
 
 unfoldable pub older : List (List Copy) → List (List Copy)
 older steps = take (length steps - 1) steps
@@ -232,8 +232,8 @@ pub record OpenDraft : Type 0 where
   pub stale : Bool
 
 abbrev pub open_draft : Draft → Option OpenDraft
-open_draft closed = none
-open_draft (working ks stale) = some (record { copies = ks; stale = stale })
+open_draft closed = None
+open_draft (working ks stale) = Some (record { copies = ks; stale = stale })
 
 -- "Book calls: 1, 12, 13, 24 (place or time), 15, then 16 or 17, 18, then 5, 19, 20, 21, 24 (index). Open: 14 after 12; undo: 22 after 12".
 -- 1 and 12 are asked of the book's bytes, before these: layout/specs/Rule.antt.

@@ -4,7 +4,7 @@ use native.Mathlib.Omega.{arith}
 use mathlib.Core.Path.{◌≡◌, refl, ap, ◌∙◌}
 use mathlib.Core.Bool.{true}
 use mathlib.Core.List.{List, [], ◌∷◌, ◌++◌}
-use mathlib.Core.Option.{Option, none, some}
+use Rattle.std.specs.Prelude.{Option, None, Some}
 use lib.ListN.{length, length-append}
 use lib.Dec.{eqb}
 use Rattle.laws.proofs.Tests.{by, apart, either_way}
@@ -27,8 +27,8 @@ use Rattle.writing.proofs.Ink.{ink_start, ink_end, ink_on, ink_next}
 
 -- ---- an element: 7 bytes at most, `SSFnnn-`, and 11 where it is a range
 headed_most : (last : Option ℕ) (p n : ℕ) (t : List ℕ) → length t ≤ n → length (new_prefix last p ++ t) ≤ 3 + n
-headed_most none p n t h = omega arith
-headed_most (some q) p n t h = either_way (λ (x : List ℕ). length (x ++ t) ≤ 3 + n) (eqb q p) {x = []} {y = prefix_bytes p} (omega arith) (omega arith)
+headed_most None p n t h = omega arith
+headed_most (Some q) p n t h = either_way (λ (x : List ℕ). length (x ++ t) ≤ 3 + n) (eqb q p) {x = []} {y = prefix_bytes p} (omega arith) (omega arith)
 
 tail_most : (n k : ℕ) → length (three_bytes n ++ (up_to n k ++ bytes "-")) ≤ 8
 tail_most n zero = omega arith
@@ -70,9 +70,9 @@ ink_of (e ∷ es) = length e + 3 + ink_of es
 module _ (k : ℕ) (es : List (List ℕ)) (rs : List Run) (h : (last : Option ℕ) → ink_of (elements_of last rs ++ es) ≤ k) where
   parted_ink : (last : Option ℕ) (p n : ℕ) → ink_of (elements_of last (parted p n ++ rs) ++ es) ≤ 10 * suc n + k
   unfolding ink_of elements_of
-  parted_ink last p zero = omega (arith, single_most last p, h (some (p / 1000)))
-  parted_ink last p (suc zero) = omega (arith, single_most last p, single_most (some (p / 1000)) (suc p), h (some (suc p / 1000)))
-  parted_ink last p (suc (suc n)) = omega (arith, element_most_lem last (record { first = p; more = suc (suc n) }), h (some (p / 1000)))
+  parted_ink last p zero = omega (arith, single_most last p, h (Some (p / 1000)))
+  parted_ink last p (suc zero) = omega (arith, single_most last p, single_most (Some (p / 1000)) (suc p), h (Some (suc p / 1000)))
+  parted_ink last p (suc (suc n)) = omega (arith, element_most_lem last (record { first = p; more = suc (suc n) }), h (Some (p / 1000)))
 
 purge_ink : (s : Stamp) → ink_of (purge_element s ∷ []) ≤ 10
 unfolding ink_of
@@ -105,8 +105,8 @@ module _ (end : End) where
   pub written_most_lem : (ps : List ℕ) (s : Stamp) → is_set ps ≡ true → length (written end ps s) ≤ written_block_most
   unfolding written block_elements
   written_most_lem ps s e =
-      let es : List (List ℕ) = elements_of none (spans_of (runs_of ps)) ++ (purge_element s ∷ []) in
-      rw (ink_start end es) (omega (arith, ink_most_lem 0 es, spans_ink s (runs_of ps) none, runs_size ps, (set_true ps e).few))
+      let es : List (List ℕ) = elements_of None (spans_of (runs_of ps)) ++ (purge_element s ∷ []) in
+      rw (ink_start end es) (omega (arith, ink_most_lem 0 es, spans_ink s (runs_of ps) None, runs_size ps, (set_true ps e).few))
 
   -- and so has every block that the rule of writing gives.
   pub block_most_lem : (ps : List ℕ) (minute : ℕ) (block : List ℕ) → written_block end ps minute ≡ ok block → length block ≤ written_block_most
@@ -114,5 +114,5 @@ module _ (end : End) where
   block_most_lem ps minute block e = by (is_set ps) (λ q. go q (date_of minute) (rw q at e)) λ q. let f : refused out_of_range 0 ≡ ok block = rw q at e in apart cc
     where
       go : is_set ps ≡ true → (o : Option Date) → dated_block end ps o ≡ ok block → length block ≤ written_block_most
-      go q none f = apart cc
-      go q (some d) f = let g : written end ps d.stamp ≡ block = cc in rw (← g) (written_most_lem ps d.stamp q)
+      go q None f = apart cc
+      go q (Some d) f = let g : written end ps d.stamp ≡ block = cc in rw (← g) (written_most_lem ps d.stamp q)

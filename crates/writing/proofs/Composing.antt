@@ -4,7 +4,7 @@ use native.Mathlib.Omega.{arith}
 use native.Mathlib.Numerals.{add-one}
 use mathlib.Core.Path.{◌≡◌, sym, ap, ◌∙◌}
 use mathlib.Core.List.{List, [], ◌∷◌, ◌++◌, append_assoc}
-use mathlib.Core.Option.{none}
+use Rattle.std.specs.Prelude.{None}
 use lib.ListN.{length, get_or, drop, length-append, drop_of_length-le}
 use lib.Seq.{length-sets, drop-cons}
 use Rattle.codes.proofs.Sets.{Set, ascending_below}
@@ -30,7 +30,7 @@ origin = record { pos = 0; col = 0 }
 pub record Begun (end : End) (a b : List ℕ) (s : State) (i : ℕ) (ps : List ℕ) : Type 0 where
   pub done : List (List ℕ)
   pub inked : Inked end a b origin s.pen done
-  pub whole : elements_of none (spans_of (runs_of ps)) ≡ done ++ ahead s (drop i ps)
+  pub whole : elements_of None (spans_of (runs_of ps)) ≡ done ++ ahead s (drop i ps)
   pub fine : FineState s
   pub few : length done + suc s.more ≤ i
   pub within : i ≤ length ps
@@ -42,7 +42,7 @@ module _ (end : End) (a : List ℕ) (ps : List ℕ) (set : Set ps) where
       record {
         done = [];
         inked = inked_none end a origin (omega arith);
-        whole = ap (λ (qs : List ℕ). elements_of none (spans_of (runs_of qs))) (drop-cons ps 0 0 set.one);
+        whole = ap (λ (qs : List ℕ). elements_of None (spans_of (runs_of qs))) (drop-cons ps 0 0 set.one);
         fine = record { joined = open_one; below = let h = ascending_below set.up 0 set.one in omega arith; low = omega arith };
         few = omega arith;
         within = set.one;

@@ -4,7 +4,7 @@ use native.Mathlib.Omega.{arith}
 use native.Mathlib.Nat.{add-zero}
 use mathlib.Core.Path.{◌≡◌, refl, ap, ◌∙◌}
 use mathlib.Core.Bool.{true, false, not, ◌&&◌}
-use mathlib.Core.Option.{Option, some}
+use Rattle.std.specs.Prelude.{Option, Some}
 use mathlib.Core.List.{List, [], ◌∷◌, ◌++◌, append_assoc, append-nil}
 use lib.ListN.{length}
 use lib.Dec.{eqb}
@@ -69,7 +69,7 @@ runs_close (open_more {lo} {n} j o) qs c =
 
 -- ---- its elements, and those of the places after it
 parted_elements : (last : Option ℕ) (p n : ℕ) (rs : List Run) → p % 1000 + n ≤ 999
-    → elements_of last (parted p n ++ rs) ≡ elements_of last (parted p n) ++ elements_of (some (p / 1000)) rs
+    → elements_of last (parted p n ++ rs) ≡ elements_of last (parted p n) ++ elements_of (Some (p / 1000)) rs
 unfolding elements_of
 parted_elements last p zero rs h = refl
 parted_elements last p (suc zero) rs h =
@@ -79,7 +79,7 @@ parted_elements last p (suc (suc n)) rs h = refl
 
 pub elements_close : (last : Option ℕ) {lo n : ℕ} → Open lo n → (qs : List ℕ) → Closes (lo + n) qs
     → elements_of last (spans_of (runs_of (upward lo (suc n) ++ qs)))
-    ≡ elements_of last (parted lo n) ++ elements_of (some (lo / 1000)) (spans_of (runs_of qs))
+    ≡ elements_of last (parted lo n) ++ elements_of (Some (lo / 1000)) (spans_of (runs_of qs))
 unfolding spans_of
 elements_close last {lo} {n} o qs c =
     ap (λ (rs : List Run). elements_of last (spans_of rs)) (runs_close o qs c) ∙ parted_elements last lo n (spans_of (runs_of qs)) (open_within o)

@@ -6,7 +6,7 @@ use native.Mathlib.Nat.{zero-add}
 use mathlib.Core.Path.{◌≡◌, refl, sym, ap, ◌∙◌}
 use mathlib.Core.List.{List, [], ◌∷◌, ◌++◌, append_assoc}
 use mathlib.Core.Bool.{cond}
-use mathlib.Core.Option.{Option, some}
+use Rattle.std.specs.Prelude.{Option, Some}
 use lib.ListN.{length, length-append}
 use lib.Dec.{eqb}
 use borrow.Author.Tests.{le-leb, lt-leb}
@@ -83,10 +83,10 @@ module _ (end : End) (a : List ℕ) (last : Option ℕ) (lo more : ℕ) (p : Pen
   flush_one h b r d = rw (parted_one lo more h) d
 
   pub flush_two : more ≡ 1 → (b c : List ℕ) (q r : Pen) → Inked end a b p q (element_of last (run_from lo 0) ∷ []) → (u : ℕ) → u ≡ lo / 1000
-      → Inked end b c q r (element_of (some u) (run_from (lo + 1) 0) ∷ []) → Inked end a c p r (elements_of last (parted lo more))
+      → Inked end b c q r (element_of (Some u) (run_from (lo + 1) 0) ∷ []) → Inked end a c p r (elements_of last (parted lo more))
   unfolding elements_of
   flush_two h b c q r d u eu g =
-      let g' : Inked end b c q r (element_of (some (lo / 1000)) (run_from (lo + 1) 0) ∷ []) = rw eu at g in
+      let g' : Inked end b c q r (element_of (Some (lo / 1000)) (run_from (lo + 1) 0) ∷ []) = rw eu at g in
       rw (h, ← add-one lo) (inked_on d g')
 
 -- whether a prefix is the last one

@@ -3,7 +3,7 @@ use mathlib.Core.List.{List}
 use Prim.Native.Nat.{ℕ, ◌+◌, ◌*◌}
 use native.Mathlib.Omega.{arith}
 use lib.ListN.{length-set}
-use mathlib.Core.Option.{none}
+use Rattle.std.specs.Prelude.{None}
 use Rattle.blocks.specs.Block.{put_block}
 use Rattle.blocks.specs.Content.{holding}
 use Rattle.steps.specs.Book.{closed, put}
@@ -35,5 +35,5 @@ returns c = let s = c.args in
     let d : ℕ = s.d in
     λ b lies.
     subst (λ (z : List ℕ). Lies z (with_drafts b (put b.drafts d closed)))
-    (sym (c.clear_block-2.ensures ∙ ap (put_block (8 + 2 * d) (holding none)) c.clear_block.ensures))
+    (sym (c.clear_block-2.ensures ∙ ap (put_block (8 + 2 * d) (holding None)) c.clear_block.ensures))
     (closed_draft s.book.now b d (omega arith) (omega arith) lies)
