@@ -57,17 +57,13 @@ fn is_set(places: &[u32]) -> bool
     ensures { result ≡ is_set places.now }
 {
     let n = places.len();
-    if n < 1 {
+    if n < 1 || CAPACITY < n {
         return false;
     }
-    if CAPACITY < n {
-        return false;
-    }
+    // By index, since a loop over pairs takes them one by one. This one has no way out, and takes several at a time.
     let mut good = true;
-    let mut i = 1;
-    while i < n {
-        good = good & (places[i - 1] < places[i]);
-        i += 1;
+    for i in 1..n {
+        good &= places[i - 1] < places[i];
     }
     good & (places[n - 1] < PLACES_END)
 }
@@ -82,14 +78,14 @@ fn is_last(last: Last, p: u32) -> bool
     }
 }
 
-// An element's bytes go straight to their places in the output. Were it built by value, a copy of it would wait for each of its bytes.
-fn put_pair(out: &mut [u8], pos: usize, x: u8, y: u8) -> usize
-    requires { pos + 2 ≤ length out.old }
-    ensures { Stored out.old out.new pos result (x ∷ y ∷ []) }
+// Copies bytes to pos, and answers the place behind them.
+pub fn put(out: &mut [u8], pos: usize, bytes: &[u8]) -> usize
+    requires { pos + length bytes.now ≤ length out.old }
+    ensures { Stored out.old out.new pos result bytes.now }
 {
-    out[pos] = x;
-    out[pos + 1] = y;
-    pos + 2
+    let end = pos + bytes.len();
+    out[pos..end].copy_from_slice(bytes);
+    end
 }
 
 fn put_two(out: &mut [u8], pos: usize, n: usize) -> usize
@@ -98,17 +94,7 @@ fn put_two(out: &mut [u8], pos: usize, n: usize) -> usize
 {
     let tens = b'0' + (n / 10) as u8;
     let ones = b'0' + (n % 10) as u8;
-    put_pair(&mut *out, pos, tens, ones)
-}
-
-fn put_bytes(out: &mut [u8], pos: usize, x: u8, y: u8, z: u8) -> usize
-    requires { pos + 3 ≤ length out.old }
-    ensures { Stored out.old out.new pos result (x ∷ y ∷ z ∷ []) }
-{
-    out[pos] = x;
-    out[pos + 1] = y;
-    out[pos + 2] = z;
-    pos + 3
+    put(out, pos, &[tens, ones])
 }
 
 fn put_three(out: &mut [u8], pos: usize, n: u32) -> usize
@@ -118,7 +104,7 @@ fn put_three(out: &mut [u8], pos: usize, n: u32) -> usize
     let hundreds = b'0' + (n / 100) as u8;
     let tens = b'0' + (n / 10 % 10) as u8;
     let ones = b'0' + (n % 10) as u8;
-    put_bytes(&mut *out, pos, hundreds, tens, ones)
+    put(out, pos, &[hundreds, tens, ones])
 }
 
 // The third letter of a prefix.
@@ -137,7 +123,7 @@ fn put_prefix(out: &mut [u8], pos: usize, p: u32) -> usize
 {
     let first = b'A' + (p / 52) as u8;
     let second = b'A' + (p / 2 % 26) as u8;
-    put_bytes(&mut *out, pos, first, second, kind(p))
+    put(out, pos, &[first, second, kind(p)])
 }
 
 // The prefix, unless it is that of the last element.
@@ -149,7 +135,7 @@ fn put_new_prefix(out: &mut [u8], pos: usize, last: Last, p: u32) -> usize
     if is_last(last, p) {
         return pos;
     }
-    put_prefix(&mut *out, pos, p)
+    put_prefix(out, pos, p)
 }
 
 // The end of a range of so many more after n; a single number has none.
@@ -162,7 +148,7 @@ fn put_end(out: &mut [u8], pos: usize, n: u32, more: u32) -> usize
         return pos;
     }
     out[pos] = b'>';
-    put_three(&mut *out, pos + 1, n + more)
+    put_three(out, pos + 1, n + more)
 }
 
 // The element of lo and so many more.
@@ -171,9 +157,9 @@ fn put_element(out: &mut [u8], pos: usize, last: Last, lo: u32, more: u32) -> us
     ensures { Stored out.old out.new pos result (element_of (paper_last last) (run_from lo more)) }
 {
     let n = lo % 1000;
-    let number = put_new_prefix(&mut *out, pos, last, lo / 1000);
-    let range = put_three(&mut *out, number, n);
-    let end = put_end(&mut *out, range, n, more);
+    let number = put_new_prefix(out, pos, last, lo / 1000);
+    let range = put_three(out, number, n);
+    let end = put_end(out, range, n, more);
     out[end] = b'-';
     end + 1
 }
@@ -204,23 +190,11 @@ fn put_purge(out: &mut [u8], pos: usize, stamp: Stamp) -> usize
     requires { (pos + element_most ≤ length out.old) × (is_time stamp ≡ true) }
     ensures { Stored out.old out.new pos result (purge_element stamp) }
 {
-    let hour = put_two(&mut *out, pos, stamp.day);
-    let minute = put_two(&mut *out, hour, stamp.hour);
-    let end = put_two(&mut *out, minute, stamp.minute);
+    let hour = put_two(out, pos, stamp.day);
+    let minute = put_two(out, hour, stamp.hour);
+    let end = put_two(out, minute, stamp.minute);
     out[end] = b'-';
     end + 1
-}
-
-// Copies the first n bytes of a text to pos.
-fn put(out: &mut [u8], pos: usize, text: &[u8], n: usize)
-    requires { (n ≤ length text.now) × (pos + n ≤ length out.old) }
-    ensures { out.new ≡ sets out.old pos (take n text.now) }
-{
-    let mut i = 0;
-    while i < n {
-        out[pos + i] = text[i];
-        i += 1;
-    }
 }
 
 fn end_line(out: &mut [u8], pos: usize, end: End) -> usize
@@ -229,12 +203,9 @@ fn end_line(out: &mut [u8], pos: usize, end: End) -> usize
     ensures most { result ≤ pos + 3 }
 {
     match end {
-        End::Lf => {
-            out[pos] = b'\n';
-            pos + 1
-        }
-        End::CrLf => put_pair(&mut *out, pos, b'\r', b'\n'),
-        End::CrCrLf => put_bytes(&mut *out, pos, b'\r', b'\r', b'\n'),
+        End::Lf => put(out, pos, b"\n"),
+        End::CrLf => put(out, pos, b"\r\n"),
+        End::CrCrLf => put(out, pos, b"\r\r\n"),
         End::Nothing => pos,
     }
 }
@@ -247,7 +218,7 @@ fn make_room(out: &mut [u8], pen: Pen, n: usize, end: End) -> Pen
     if pen.col + n <= WRITTEN_MOST {
         return pen;
     }
-    let start = end_line(&mut *out, pen.pos, end);
+    let start = end_line(out, pen.pos, end);
     Pen { pos: start, col: 0 }
 }
 
@@ -257,8 +228,8 @@ fn add(out: &mut [u8], pen: Pen, last: Last, lo: u32, more: u32, end: End) -> Pe
     ensures { Inked end out.old out.new pen result (element_of (paper_last last) (run_from lo more) ∷ []) }
 {
     let n = element_length(last, lo, more);
-    let at = make_room(&mut *out, pen, n, end);
-    let pos = put_element(&mut *out, at.pos, last, lo, more);
+    let at = make_room(out, pen, n, end);
+    let pos = put_element(out, at.pos, last, lo, more);
     Pen {
         pos,
         col: at.col + n,
@@ -270,8 +241,8 @@ fn add_purge(out: &mut [u8], pen: Pen, stamp: Stamp, end: End) -> Pen
     requires { (is_time stamp ≡ true) × (pen.pos + ink_most ≤ length out.old) × (pen.col ≤ written_most) }
     ensures { Inked end out.old out.new pen result (purge_element stamp ∷ []) }
 {
-    let at = make_room(&mut *out, pen, PURGE_LENGTH, end);
-    let pos = put_purge(&mut *out, at.pos, stamp);
+    let at = make_room(out, pen, PURGE_LENGTH, end);
+    let pos = put_purge(out, at.pos, stamp);
     Pen {
         pos,
         col: at.col + PURGE_LENGTH,
@@ -292,11 +263,11 @@ fn flush(out: &mut [u8], pen: Pen, last: Last, lo: u32, more: u32, end: End) -> 
     ensures most { result.pos ≤ pen.pos + 2 * ink_most }
 {
     if more == 1 {
-        let next = add(&mut *out, pen, last, lo, 0, end);
+        let next = add(out, pen, last, lo, 0, end);
         let under = codes::wide(lo / 1000);
-        return add(&mut *out, next, Last::Prefix(under), lo + 1, 0, end);
+        return add(out, next, Last::Prefix(under), lo + 1, 0, end);
     }
-    add(&mut *out, pen, last, lo, more, end)
+    add(out, pen, last, lo, more, end)
 }
 
 // The next place: it joins the open run, or that is written and the place opens another.
@@ -316,7 +287,7 @@ fn turn(out: &mut [u8], s: State, q: u32, end: End) -> State
             more: more + 1,
         };
     }
-    let next = flush(&mut *out, pen, last, lo, more, end);
+    let next = flush(out, pen, last, lo, more, end);
     let under = codes::wide(lo / 1000);
     State {
         pen: next,
@@ -335,9 +306,9 @@ fn close(out: &mut [u8], s: State, stamp: Stamp, end: End) -> usize
     let last = s.last;
     let lo = s.lo;
     let more = s.more;
-    let a = flush(&mut *out, pen, last, lo, more, end);
-    let b = add_purge(&mut *out, a, stamp, end);
-    end_line(&mut *out, b.pos, end)
+    let a = flush(out, pen, last, lo, more, end);
+    let b = add_purge(out, a, stamp, end);
+    end_line(out, b.pos, end)
 }
 
 // Writes the block of these places and this purge to the front of out.
@@ -354,12 +325,10 @@ fn compose(out: &mut [u8], places: &[u32], stamp: Stamp, end: End) -> usize
         lo: first,
         more: 0,
     };
-    let mut i = 1;
-    while i < places.len() {
-        s = turn(&mut *out, s, places[i], end);
-        i += 1;
+    for place in &places[1..] {
+        s = turn(out, s, *place, end);
     }
-    close(&mut *out, s, stamp, end)
+    close(out, s, stamp, end)
 }
 
 fn refused(number: usize) -> Written
@@ -382,7 +351,7 @@ pub fn write_ended(out: &mut [u8], places: &[u32], purge: usize, end: End) -> Wr
         if out.len() < n {
             return refused(refusal::OUTPUT_SHORT);
         }
-        put(&mut *out, 0, &block, n);
+        out[..n].copy_from_slice(&block[..n]);
         Written::Length(n)
     } else {
         refused(refusal::OUT_OF_RANGE)
@@ -393,5 +362,5 @@ pub fn write_ended(out: &mut [u8], places: &[u32], purge: usize, end: End) -> Wr
 pub fn write_block(out: &mut [u8], places: &[u32], purge: usize) -> Written
     ensures { Writes out.old out.new places.now purge result }
 {
-    write_ended(&mut *out, places, purge, End::CrCrLf)
+    write_ended(out, places, purge, End::CrCrLf)
 }

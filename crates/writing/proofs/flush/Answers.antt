@@ -1,4 +1,3 @@
-use native.Mathlib.Omega.{arith}
 use Rattle.writing.proofs.Ink.{open_within}
 use Rattle.writing.proofs.Inking.{flush_one, flush_two}
 use Rattle.std.proofs.Common.{rules}
@@ -7,14 +6,8 @@ use Rattle.writing.proofs.flush.Goals as goal
 pub returns-then-more-eq1-clause-inked : goal.returns-then-more-eq1-clause-inked
 returns-then-more-eq1-clause-inked c = search (flush_two, rules)
 
-pub returns-then-more-eq1-clause-most : goal.returns-then-more-eq1-clause-most
-returns-then-more-eq1-clause-most c = omega arith
-
 pub add-requires-2 : goal.add-requires-2
 add-requires-2 c = search (open_within, rules)
 
 pub returns-clause-inked : goal.returns-clause-inked
 returns-clause-inked c = search (flush_one, rules)
-
-pub returns-clause-most : goal.returns-clause-most
-returns-clause-most c = omega arith
