@@ -1,6 +1,6 @@
 use mathlib.Core.Path.{refl}
 use Rattle.sets.specs.Held.{vacant}
-use Rattle.reading.proofs.none.Goals as goal
+use Rattle.sets.proofs.Places.new.Goals as goal
 
 pub returns : goal.returns
 unfolding vacant
