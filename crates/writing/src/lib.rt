@@ -41,13 +41,19 @@ struct Pen {
     col: usize,
 }
 
-// A run that is still open, `lo` and so many more, after what the pen has written.
+// Places that follow each other: `lo` and so many more.
+#[derive(Clone, Copy)]
+struct Run {
+    lo: u32,
+    more: u32,
+}
+
+// A run that is still open, after what the pen has written, and the prefix of its last element.
 #[derive(Clone, Copy)]
 struct State {
     pen: Pen,
     last: Option<usize>,
-    lo: u32,
-    more: u32,
+    run: Run,
 }
 
 // Whether these are the places of a segment: at least one and at most 120, strictly ascending.
@@ -68,7 +74,7 @@ fn is_set(places: &[u32]) -> bool
 
 // Whether p is the prefix of the last element.
 fn is_last(last: Option<usize>, p: u32) -> bool
-    ensures { new_prefix (last) p ≡ cond result [] (prefix_bytes p) }
+    ensures { new_prefix last p ≡ cond result [] (prefix_bytes p) }
 {
     last == Some(codes::wide(p))
 }
@@ -124,7 +130,7 @@ fn put_prefix(out: &mut [u8], pos: usize, p: u32) -> usize
 // The prefix, unless it is that of the last element.
 fn put_new_prefix(out: &mut [u8], pos: usize, last: Option<usize>, p: u32) -> usize
     requires { (pos + 3 ≤ length out.old) × (p < prefixes) }
-    ensures stored { Stored out.old out.new pos result (new_prefix (last) p) }
+    ensures stored { Stored out.old out.new pos result (new_prefix last p) }
     ensures most { result ≤ pos + 3 }
 {
     if is_last(last, p) {
@@ -146,21 +152,22 @@ fn put_end(out: &mut [u8], pos: usize, n: u32, more: u32) -> usize
     put_three(out, pos + 1, n + more)
 }
 
-// The element of lo and so many more.
-fn put_element(out: &mut [u8], pos: usize, last: Option<usize>, lo: u32, more: u32) -> usize
-    requires { (pos + element_most ≤ length out.old) × (lo < places_end) × (lo % 1000 + more ≤ 999) }
-    ensures { Stored out.old out.new pos result (element_of (last) (run_from lo more)) }
+// The element of a run.
+fn put_element(out: &mut [u8], pos: usize, last: Option<usize>, run: Run) -> usize
+    requires room { pos + element_most ≤ length out.old }
+    requires run { (run.lo < places_end) × (run.lo % 1000 + run.more ≤ 999) }
+    ensures { Stored out.old out.new pos result (element_of last (run_from run.lo run.more)) }
 {
-    let n = lo % 1000;
-    let number = put_new_prefix(out, pos, last, lo / 1000);
+    let n = run.lo % 1000;
+    let number = put_new_prefix(out, pos, last, run.lo / 1000);
     let range = put_three(out, number, n);
-    let end = put_end(out, range, n, more);
+    let end = put_end(out, range, n, run.more);
     out[end] = b'-';
     end + 1
 }
 
 fn new_prefix_length(last: Option<usize>, p: u32) -> usize
-    ensures value { result ≡ length (new_prefix (last) p) }
+    ensures value { result ≡ length (new_prefix last p) }
     ensures most { result ≤ 3 }
 {
     if is_last(last, p) {
@@ -169,13 +176,13 @@ fn new_prefix_length(last: Option<usize>, p: u32) -> usize
     3
 }
 
-// How many bytes the element of lo and so many more has, `nnn-` or `nnn>mmm-` behind its prefix.
-fn element_length(last: Option<usize>, lo: u32, more: u32) -> usize
-    ensures value { result ≡ length (element_of (last) (run_from lo more)) }
+// How many bytes the element of a run has, `nnn-` or `nnn>mmm-` behind its prefix.
+fn element_length(last: Option<usize>, run: Run) -> usize
+    ensures value { result ≡ length (element_of last (run_from run.lo run.more)) }
     ensures most { result ≤ element_most }
 {
-    let n = new_prefix_length(last, lo / 1000);
-    if more == 0 {
+    let n = new_prefix_length(last, run.lo / 1000);
+    if run.more == 0 {
         return n + 4;
     }
     n + 8
@@ -205,45 +212,6 @@ fn end_line(out: &mut [u8], pos: usize, end: End) -> usize
     }
 }
 
-// Where an element of n bytes goes: in this line, or in a new one if it would carry this one too far.
-fn make_room(out: &mut [u8], pen: Pen, n: usize, end: End) -> Pen
-    requires { (n ≤ element_most) × (pen.pos + 3 ≤ length out.old) × (pen.col ≤ written_most) }
-    ensures { Room end out.old out.new pen result n }
-{
-    if pen.col + n <= WRITTEN_MOST {
-        return pen;
-    }
-    let start = end_line(out, pen.pos, end);
-    Pen { pos: start, col: 0 }
-}
-
-// Sets the element of lo and so many more in the line, or in a new one.
-fn add(out: &mut [u8], pen: Pen, last: Option<usize>, lo: u32, more: u32, end: End) -> Pen
-    requires { (lo < places_end) × (lo % 1000 + more ≤ 999) × (pen.pos + ink_most ≤ length out.old) × (pen.col ≤ written_most) }
-    ensures { Inked end out.old out.new pen result (element_of (last) (run_from lo more) ∷ []) }
-{
-    let n = element_length(last, lo, more);
-    let at = make_room(out, pen, n, end);
-    let pos = put_element(out, at.pos, last, lo, more);
-    Pen {
-        pos,
-        col: at.col + n,
-    }
-}
-
-// The same of the purge.
-fn add_purge(out: &mut [u8], pen: Pen, stamp: Stamp, end: End) -> Pen
-    requires { (is_time stamp ≡ true) × (pen.pos + ink_most ≤ length out.old) × (pen.col ≤ written_most) }
-    ensures { Inked end out.old out.new pen result (purge_element stamp ∷ []) }
-{
-    let at = make_room(out, pen, PURGE_LENGTH, end);
-    let pos = put_purge(out, at.pos, stamp);
-    Pen {
-        pos,
-        col: at.col + PURGE_LENGTH,
-    }
-}
-
 fn joins(p: u32, q: u32) -> bool
     requires { p < places_end }
     ensures { result ≡ joins p q }
@@ -251,59 +219,105 @@ fn joins(p: u32, q: u32) -> bool
     (p + 1 == q) & (p % 1000 != 0) & (q % 1000 != 0)
 }
 
-// Writes a run: one of two as two singles, any other as one element.
-fn flush(out: &mut [u8], pen: Pen, last: Option<usize>, lo: u32, more: u32, end: End) -> Pen
-    requires { Open lo more × (lo + more < places_end) × (pen.pos + 2 * ink_most ≤ length out.old) × (pen.col ≤ written_most) }
-    ensures inked { Inked end out.old out.new pen result (elements_of (last) (parted lo more)) }
-    ensures most { result.pos ≤ pen.pos + 2 * ink_most }
-{
-    if more == 1 {
-        let next = add(out, pen, last, lo, 0, end);
+impl Pen {
+    // Where an element of n bytes goes: in this line, or in a new one if it would carry this one too far.
+    fn make_room(self, out: &mut [u8], n: usize, end: End) -> Pen
+        requires { (n ≤ element_most) × (self.pos + 3 ≤ length out.old) × (self.col ≤ written_most) }
+        ensures { Room end out.old out.new self result n }
+    {
+        if self.col + n <= WRITTEN_MOST {
+            return self;
+        }
+        let start = end_line(out, self.pos, end);
+        Pen { pos: start, col: 0 }
+    }
+
+    // Sets the element of a run in the line, or in a new one.
+    fn add(self, out: &mut [u8], last: Option<usize>, run: Run, end: End) -> Pen
+        requires run { (run.lo < places_end) × (run.lo % 1000 + run.more ≤ 999) }
+        requires room { (self.pos + ink_most ≤ length out.old) × (self.col ≤ written_most) }
+        ensures { Inked end out.old out.new self result (element_of last (run_from run.lo run.more) ∷ []) }
+    {
+        let n = element_length(last, run);
+        let at = self.make_room(out, n, end);
+        let pos = put_element(out, at.pos, last, run);
+        Pen {
+            pos,
+            col: at.col + n,
+        }
+    }
+
+    // The same of the purge.
+    fn add_purge(self, out: &mut [u8], stamp: Stamp, end: End) -> Pen
+        requires { (is_time stamp ≡ true) × (self.pos + ink_most ≤ length out.old) × (self.col ≤ written_most) }
+        ensures { Inked end out.old out.new self result (purge_element stamp ∷ []) }
+    {
+        let at = self.make_room(out, PURGE_LENGTH, end);
+        let pos = put_purge(out, at.pos, stamp);
+        Pen {
+            pos,
+            col: at.col + PURGE_LENGTH,
+        }
+    }
+
+    // Writes a run: one of two as two singles, any other as one element.
+    fn flush(self, out: &mut [u8], last: Option<usize>, run: Run, end: End) -> Pen
+        requires run { Open run.lo run.more × (run.lo + run.more < places_end) }
+        requires room { (self.pos + 2 * ink_most ≤ length out.old) × (self.col ≤ written_most) }
+        ensures inked { Inked end out.old out.new self result (elements_of last (parted run.lo run.more)) }
+        ensures most { result.pos ≤ self.pos + 2 * ink_most }
+    {
+        if run.more == 1 {
+            let lo = run.lo;
+            let next = self.add(out, last, Run { lo, more: 0 }, end);
+            let under = codes::wide(lo / 1000);
+            return next.add(
+                out,
+                Some(under),
+                Run {
+                    lo: lo + 1,
+                    more: 0,
+                },
+                end,
+            );
+        }
+        self.add(out, last, run, end)
+    }
+}
+
+impl State {
+    // The next place: it joins the open run, or that is written and the place opens another.
+    fn turn(self, out: &mut [u8], q: u32, end: End) -> State
+        requires { FineState self × (q < places_end) × (self.pen.pos + 2 * ink_most ≤ length out.old) }
+        ensures { Turned end out.old out.new self result q }
+    {
+        let State { pen, last, run } = self;
+        let Run { lo, more } = run;
+        if joins(lo + more, q) {
+            return State {
+                pen,
+                last,
+                run: Run { lo, more: more + 1 },
+            };
+        }
+        let next = pen.flush(out, last, run, end);
         let under = codes::wide(lo / 1000);
-        return add(out, next, Some(under), lo + 1, 0, end);
+        State {
+            pen: next,
+            last: Some(under),
+            run: Run { lo: q, more: 0 },
+        }
     }
-    add(out, pen, last, lo, more, end)
-}
 
-// The next place: it joins the open run, or that is written and the place opens another.
-fn turn(out: &mut [u8], s: State, q: u32, end: End) -> State
-    requires { FineState s × (q < places_end) × (s.pen.pos + 2 * ink_most ≤ length out.old) }
-    ensures { Turned end out.old out.new s result q }
-{
-    let pen = s.pen;
-    let last = s.last;
-    let lo = s.lo;
-    let more = s.more;
-    if joins(lo + more, q) {
-        return State {
-            pen,
-            last,
-            lo,
-            more: more + 1,
-        };
+    // The open run, the purge and the line's end.
+    fn close(self, out: &mut [u8], stamp: Stamp, end: End) -> usize
+        requires { FineState self × (is_time stamp ≡ true) × (self.pen.pos + close_most ≤ length out.old) }
+        ensures { Closed end out.old out.new self stamp result }
+    {
+        let a = self.pen.flush(out, self.last, self.run, end);
+        let b = a.add_purge(out, stamp, end);
+        end_line(out, b.pos, end)
     }
-    let next = flush(out, pen, last, lo, more, end);
-    let under = codes::wide(lo / 1000);
-    State {
-        pen: next,
-        last: Some(under),
-        lo: q,
-        more: 0,
-    }
-}
-
-// The open run, the purge and the line's end.
-fn close(out: &mut [u8], s: State, stamp: Stamp, end: End) -> usize
-    requires { FineState s × (is_time stamp ≡ true) × (s.pen.pos + close_most ≤ length out.old) }
-    ensures { Closed end out.old out.new s stamp result }
-{
-    let pen = s.pen;
-    let last = s.last;
-    let lo = s.lo;
-    let more = s.more;
-    let a = flush(out, pen, last, lo, more, end);
-    let b = add_purge(out, a, stamp, end);
-    end_line(out, b.pos, end)
 }
 
 // Writes the block of these places and this purge to the front of out.
@@ -313,17 +327,18 @@ fn compose(out: &mut [u8], places: &[u32], stamp: Stamp, end: End) -> usize
     requires block_most_in_bounds { block_most ≤ length out.old }
     ensures { Composed out.old out.new (written end places.now stamp) result }
 {
-    let first = places[0];
     let mut s = State {
         pen: Pen { pos: 0, col: 0 },
         last: None,
-        lo: first,
-        more: 0,
+        run: Run {
+            lo: places[0],
+            more: 0,
+        },
     };
     for place in &places[1..] {
-        s = turn(out, s, *place, end);
+        s = s.turn(out, *place, end);
     }
-    close(out, s, stamp, end)
+    s.close(out, stamp, end)
 }
 
 fn refused(number: usize) -> Written
