@@ -219,6 +219,15 @@ fn joins(p: u32, q: u32) -> bool
     (p + 1 == q) & (p % 1000 != 0) & (q % 1000 != 0)
 }
 
+impl Run {
+    // One place alone.
+    fn single(lo: u32) -> Run
+        ensures { result ≡ record { lo = lo; more = 0 } }
+    {
+        Run { lo, more: 0 }
+    }
+}
+
 impl Pen {
     // Where an element of n bytes goes: in this line, or in a new one if it would carry this one too far.
     fn make_room(self, out: &mut [u8], n: usize, end: End) -> Pen
@@ -268,18 +277,9 @@ impl Pen {
         ensures most { result.pos ≤ self.pos + 2 * ink_most }
     {
         if run.more == 1 {
-            let lo = run.lo;
-            let next = self.add(out, last, Run { lo, more: 0 }, end);
-            let under = codes::wide(lo / 1000);
-            return next.add(
-                out,
-                Some(under),
-                Run {
-                    lo: lo + 1,
-                    more: 0,
-                },
-                end,
-            );
+            let under = codes::wide(run.lo / 1000);
+            let next = self.add(out, last, Run::single(run.lo), end);
+            return next.add(out, Some(under), Run::single(run.lo + 1), end);
         }
         self.add(out, last, run, end)
     }
@@ -305,7 +305,7 @@ impl State {
         State {
             pen: next,
             last: Some(under),
-            run: Run { lo: q, more: 0 },
+            run: Run::single(q),
         }
     }
 
@@ -330,10 +330,7 @@ fn compose(out: &mut [u8], places: &[u32], stamp: Stamp, end: End) -> usize
     let mut s = State {
         pen: Pen { pos: 0, col: 0 },
         last: None,
-        run: Run {
-            lo: places[0],
-            more: 0,
-        },
+        run: Run::single(places[0]),
     };
     for place in &places[1..] {
         s = s.turn(out, *place, end);
