@@ -1,10 +1,11 @@
 // The changes of a draft's copy: document 01, "Steps". `copies` tells whether a draft may work on a segment, and finds its copy.
 #![tactic(auto)]
 
-ghost use Rattle.std.specs.Prelude.{◌≡◌, true, false, ◌<◌, length};
+ghost use Rattle.std.specs.Prelude.{◌≡◌, true, false, ◌<◌, ◌==◌, length, position};
 ghost use Rattle.std.specs.Prelude.{Some};
 ghost use Rattle.codes.specs.Places.{capacity, ascends};
 ghost use Rattle.codes.specs.Block.{insert};
+ghost use Rattle.codes.specs.Serving.{First};
 ghost use Rattle.blocks.specs.Block.{book_length, block_count, put_block};
 ghost use Rattle.blocks.specs.Content.{holding};
 ghost use Rattle.blocks.specs.Held.{held_content, Fits};
@@ -17,86 +18,57 @@ use layout::Reply;
 use refusal::Verdict;
 
 // Whether p is one of the places.
-fn has_place(h: Held, p: u32) -> bool
-    requires { Fits h }
-    ensures { result ≡ member p (held_content h).places }
+fn has_place(h: &Held, p: u32) -> bool
+    requires { Fits h.now }
+    ensures { result ≡ member p (held_content h.now).places }
 {
-    let places = h.places;
-    let count = h.count;
-    let mut i = 0;
-    while i < count {
-        if places[i] == p {
-            return true;
-        }
-        i += 1;
-    }
-    false
+    h.places[..h.count].contains(&p)
+}
+
+// The first index of ascending places whose place is not less than p.
+fn first_from(places: &[u32], p: u32) -> usize
+    requires { ascends 0 places.now ≡ true }
+    ensures { First p places.now result }
+{
+    places.partition_point(|place| *place < p)
 }
 
 // The content with p put in: each greater place goes on to the next index.
-fn with_place(h: Held, p: u32) -> Held
-    requires fits_2 { Fits h }
-    requires count_lt_capacity { h.count < capacity }
-    requires h_value { ascends 0 (held_content h).places ≡ true }
-    requires h_value_2 { member p (held_content h).places ≡ false }
+fn with_place(mut h: Held, p: u32) -> Held
+    requires sound { Fits h }
+    requires room { h.count < capacity }
+    requires ascending { ascends 0 (held_content h).places ≡ true }
+    requires absent { member p (held_content h).places ≡ false }
     ensures is { held_content result ≡ record { purge = h.purge; places = insert p (held_content h).places } }
     ensures fits { Fits result }
 {
-    let mut places = h.places;
     let count = h.count;
-    let mut carry = p;
-    let mut i = 0;
-    while i < count {
-        let x = places[i];
-        if carry < x {
-            places[i] = carry;
-            carry = x;
-            i += 1;
-            continue;
-        }
-        i += 1;
-    }
-    places[count] = carry;
-    Held {
-        purge: h.purge,
-        places,
-        count: count + 1,
-    }
+    let at = first_from(&h.places[..count], p);
+    h.places.copy_within(at..count, at + 1);
+    h.places[at] = p;
+    h.count += 1;
+    h
+}
+
+// The index of p among the places, if it is one of them.
+fn index_of(places: &[u32], p: u32) -> Option<usize>
+    ensures { result ≡ position (λ q. q == p) places.now }
+{
+    places.iter().position(|place| *place == p)
 }
 
 // The content with p taken out: each later place goes down to the index before.
-fn without_place(h: Held, p: u32) -> Held
-    requires fits_2 { Fits h }
-    requires h_value { ascends 0 (held_content h).places ≡ true }
+fn without_place(mut h: Held, p: u32) -> Held
+    requires { Fits h }
     ensures is { held_content result ≡ record { purge = h.purge; places = without p (held_content h).places } }
     ensures fits { Fits result }
 {
-    let mut places = h.places;
     let count = h.count;
-    let mut left = 0;
-    let mut i = 0;
-    while i < count {
-        let x = places[i];
-        i += 1;
-        if x == p {
-            continue;
-        }
-        places[left] = x;
-        left += 1;
+    if let Some(at) = index_of(&h.places[..count], p) {
+        h.places.copy_within(at + 1..count, at);
+        h.count -= 1;
     }
-    Held {
-        purge: h.purge,
-        places,
-        count: left,
-    }
-}
-
-// A place or a minute, which is small enough.
-fn narrow(n: usize) -> u32
-    requires { n < 4294967296 }
-    ensures { result ≡ n }
-{
-    n as u32
+    h
 }
 
 // Stores a content by value in block k.
@@ -105,9 +77,7 @@ fn store_held(book: &mut [u8], k: usize, h: Held)
     requires fits { Fits h }
     ensures { book.new ≡ put_block k (holding (Some (held_content h))) book.old }
 {
-    let places = h.places;
-    let count = h.count;
-    blocks::store(book, k, h.purge, &places[0..count]);
+    blocks::store(book, k, h.purge, &h.places[..h.count]);
 }
 
 // Another purge minute of a draft's copy: the one that DDHHMM gives.
@@ -127,13 +97,9 @@ pub fn set_purge(book: &mut [u8], d: usize, s: usize, time: Stamp) -> Reply
     let Some(minute) = calendar::purge_of(issue, time) else {
         return layout::refused(refusal::WRONG_TIME);
     };
-    let purge = narrow(minute);
-    let places = h.places;
-    let count = h.count;
     let new = Held {
-        purge,
-        places,
-        count,
+        purge: minute as u32,
+        ..h
     };
     store_held(book, k, new);
     Reply::Number(minute)
@@ -152,9 +118,8 @@ pub fn add(book: &mut [u8], d: usize, s: usize, p: usize) -> Reply
         return layout::refused(refusal::NOT_TAKEN);
     };
     let h = blocks::load(book, k);
-    let place = narrow(p);
-    let there = has_place(h, place);
-    if there {
+    let place = p as u32;
+    if has_place(&h, place) {
         return Reply::Was(true);
     }
     if 120 <= h.count {
@@ -178,9 +143,8 @@ pub fn remove(book: &mut [u8], d: usize, s: usize, p: usize) -> Reply
         return layout::refused(refusal::NOT_TAKEN);
     };
     let h = blocks::load(book, k);
-    let place = narrow(p);
-    let there = has_place(h, place);
-    if !there {
+    let place = p as u32;
+    if !has_place(&h, place) {
         return Reply::Was(false);
     }
     if h.count == 1 {

@@ -1,5 +1,5 @@
 use native.Mathlib.Omega.{arith}
-use mathlib.Core.Path.{sym, ◌∙◌}
+use mathlib.Core.Path.{refl, sym, ◌∙◌}
 use Rattle.blocks.specs.Block.{Bytes}
 use Rattle.copies.proofs.Ways.{refused_does, admitting, ranging, working, load_long, load_block, load_few, absent_does}
 use Rattle.edits.proofs.Ways.{place_low, held_up, add_old, add_full, add_new}
@@ -27,16 +27,16 @@ load-h-requires c = let l = c.args.book.now in
     let y : Bytes l = λ i. omega (arith, c.slice_known-1.given i) in
     (search (load_long, y, rules), search (load_block, y, rules), search (load_few, y, rules))
 
-pub narrow-place-requires : goal.narrow-place-requires
-narrow-place-requires c = search (place_low, rules)
+pub overflow_cast-place : goal.overflow_cast-place
+overflow_cast-place c = search (place_low, rules)
 
-pub returns-then-there : goal.returns-then-there
+pub returns-then-has_place : goal.returns-then-has_place
 unfolding Bytes
-returns-then-there c = let l = c.args.book.now in
+returns-then-has_place c = let l = c.args.book.now in
     let y : Bytes l = λ i. omega (arith, c.slice_known-1.given i) in
     let w = working l y _ _ _ _ c.in_default.is c.admit-verdict.ensures _ c.find_copy.ensures _ c.in-Some.is in
     let r = ranging l _ _ _ _ c.in_default.is c.admit-verdict.ensures in
-    add_old l _ _ _ w _ c.load-h.ensures.fits c.load-h.ensures.is _ _ c.narrow-place.ensures r _ c.has_place-there.ensures c.if-there.true
+    add_old l _ _ _ w _ c.load-h.ensures.fits c.load-h.ensures.is _ _ refl r _ c.has_place.ensures c.if-has_place.true
 
 pub returns-then-h-ge120 : goal.returns-then-h-ge120
 unfolding Bytes
@@ -44,14 +44,14 @@ returns-then-h-ge120 c = let l = c.args.book.now in
     let y : Bytes l = λ i. omega (arith, c.slice_known-1.given i) in
     let w = working l y _ _ _ _ c.in_default.is c.admit-verdict.ensures _ c.find_copy.ensures _ c.in-Some.is in
     let r = ranging l _ _ _ _ c.in_default.is c.admit-verdict.ensures in
-    add_full l _ _ _ w _ c.load-h.ensures.fits c.load-h.ensures.is _ _ c.narrow-place.ensures r _ c.has_place-there.ensures c.if-there.false c.if-h-ge120.true _ c.refused-then-h-ge120.ensures
+    add_full l _ _ _ w _ c.load-h.ensures.fits c.load-h.ensures.is _ _ refl r _ c.has_place.ensures c.if-has_place.false c.if-h-ge120.true _ c.refused-then-h-ge120.ensures
 
 pub with_place-new-requires : goal.with_place-new-requires
 unfolding Bytes
 with_place-new-requires c = let l = c.args.book.now in
     let y : Bytes l = λ i. omega (arith, c.slice_known-1.given i) in
     let w = working l y _ _ _ _ c.in_default.is c.admit-verdict.ensures _ c.find_copy.ensures _ c.in-Some.is in
-    record { fits_2 = search rules; count_lt_capacity = search rules; h_value = held_up l _ _ _ w _ c.load-h.ensures.fits c.load-h.ensures.is; h_value_2 = sym c.has_place-there.ensures ∙ c.if-there.false }
+    record { sound = search rules; room = search rules; ascending = held_up l _ _ _ w _ c.load-h.ensures.fits c.load-h.ensures.is; absent = sym c.has_place.ensures ∙ c.if-has_place.false }
 
 pub store_held-requires : goal.store_held-requires
 unfolding Bytes
@@ -66,4 +66,4 @@ returns c = let l = c.args.book.now in
     let y : Bytes l = λ i. omega (arith, c.slice_known-1.given i) in
     let w = working l y _ _ _ _ c.in_default.is c.admit-verdict.ensures _ c.find_copy.ensures _ c.in-Some.is in
     let r = ranging l _ _ _ _ c.in_default.is c.admit-verdict.ensures in
-    add_new l _ _ _ w _ c.load-h.ensures.fits c.load-h.ensures.is _ _ c.narrow-place.ensures r _ c.has_place-there.ensures c.if-there.false c.if-h-ge120.false _ c.with_place-new.ensures.is c.with_place-new.ensures.fits _ c.store_held.ensures
+    add_new l _ _ _ w _ c.load-h.ensures.fits c.load-h.ensures.is _ _ refl r _ c.has_place.ensures c.if-has_place.false c.if-h-ge120.false _ c.with_place-new.ensures.is c.with_place-new.ensures.fits _ c.store_held.ensures

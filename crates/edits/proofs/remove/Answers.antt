@@ -1,9 +1,9 @@
-use mathlib.Core.Path.{ap}
+use mathlib.Core.Path.{refl, ap}
 use mathlib.Core.Bool.{not}
 use native.Mathlib.Omega.{arith}
 use Rattle.blocks.specs.Block.{Bytes}
 use Rattle.copies.proofs.Ways.{refused_does, admitting, ranging, working, load_long, load_block, load_few, absent_does}
-use Rattle.edits.proofs.Ways.{place_low, held_up, remove_none, remove_only, remove_old}
+use Rattle.edits.proofs.Ways.{place_low, remove_none, remove_only, remove_old}
 use Rattle.std.proofs.Common.{rules}
 use Rattle.edits.proofs.remove.Goals as goal
 
@@ -28,16 +28,16 @@ load-h-requires c = let l = c.args.book.now in
     let y : Bytes l = λ i. omega (arith, c.slice_known-1.given i) in
     (search (load_long, y, rules), search (load_block, y, rules), search (load_few, y, rules))
 
-pub narrow-place-requires : goal.narrow-place-requires
-narrow-place-requires c = search (place_low, rules)
+pub overflow_cast-place : goal.overflow_cast-place
+overflow_cast-place c = search (place_low, rules)
 
-pub returns-then-not-there : goal.returns-then-not-there
+pub returns-then-not-has_place : goal.returns-then-not-has_place
 unfolding Bytes
-returns-then-not-there c = let l = c.args.book.now in
+returns-then-not-has_place c = let l = c.args.book.now in
     let y : Bytes l = λ i. omega (arith, c.slice_known-1.given i) in
     let w = working l y _ _ _ _ c.in_default.is c.admit-verdict.ensures _ c.find_copy.ensures _ c.in-Some.is in
     let r = ranging l _ _ _ _ c.in_default.is c.admit-verdict.ensures in
-    remove_none l _ _ _ w _ c.load-h.ensures.fits c.load-h.ensures.is _ _ c.narrow-place.ensures r _ c.has_place-there.ensures (ap not c.if-not-there.true)
+    remove_none l _ _ _ w _ c.load-h.ensures.fits c.load-h.ensures.is _ _ refl r _ c.has_place.ensures (ap not c.if-not-has_place.true)
 
 pub returns-then-h-eq1 : goal.returns-then-h-eq1
 unfolding Bytes
@@ -45,14 +45,7 @@ returns-then-h-eq1 c = let l = c.args.book.now in
     let y : Bytes l = λ i. omega (arith, c.slice_known-1.given i) in
     let w = working l y _ _ _ _ c.in_default.is c.admit-verdict.ensures _ c.find_copy.ensures _ c.in-Some.is in
     let r = ranging l _ _ _ _ c.in_default.is c.admit-verdict.ensures in
-    remove_only l _ _ _ w _ c.load-h.ensures.fits c.load-h.ensures.is _ _ c.narrow-place.ensures r _ c.has_place-there.ensures (ap not c.if-not-there.false) c.if-h-eq1.true _ c.refused-then-h-eq1.ensures
-
-pub without_place-new-requires : goal.without_place-new-requires
-unfolding Bytes
-without_place-new-requires c = let l = c.args.book.now in
-    let y : Bytes l = λ i. omega (arith, c.slice_known-1.given i) in
-    let w = working l y _ _ _ _ c.in_default.is c.admit-verdict.ensures _ c.find_copy.ensures _ c.in-Some.is in
-    record { fits_2 = search rules; h_value = held_up l _ _ _ w _ c.load-h.ensures.fits c.load-h.ensures.is }
+    remove_only l _ _ _ w _ c.load-h.ensures.fits c.load-h.ensures.is _ _ refl r _ c.has_place.ensures (ap not c.if-not-has_place.false) c.if-h-eq1.true _ c.refused-then-h-eq1.ensures
 
 pub store_held-requires : goal.store_held-requires
 unfolding Bytes
@@ -67,4 +60,4 @@ returns c = let l = c.args.book.now in
     let y : Bytes l = λ i. omega (arith, c.slice_known-1.given i) in
     let w = working l y _ _ _ _ c.in_default.is c.admit-verdict.ensures _ c.find_copy.ensures _ c.in-Some.is in
     let r = ranging l _ _ _ _ c.in_default.is c.admit-verdict.ensures in
-    remove_old l _ _ _ w _ c.load-h.ensures.fits c.load-h.ensures.is _ _ c.narrow-place.ensures r _ c.has_place-there.ensures (ap not c.if-not-there.false) c.if-h-eq1.false _ c.without_place-new.ensures.is c.without_place-new.ensures.fits _ c.store_held.ensures
+    remove_old l _ _ _ w _ c.load-h.ensures.fits c.load-h.ensures.is _ _ refl r _ c.has_place.ensures (ap not c.if-not-has_place.false) c.if-h-eq1.false _ c.without_place-new.ensures.is c.without_place-new.ensures.fits _ c.store_held.ensures

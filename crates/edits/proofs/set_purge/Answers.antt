@@ -1,7 +1,7 @@
 use lib.ListN.{length}
 use Rattle.blocks.specs.Block.{book_length, Bytes}
 use native.Mathlib.Omega.{arith}
-use mathlib.Core.Path.{◌≡◌, ◌∙◌}
+use mathlib.Core.Path.{◌≡◌, refl, ◌∙◌}
 use Rattle.copies.proofs.Ways.{admitting, ranging, working, load_long, load_block, load_few}
 use Rattle.edits.proofs.Ways.{tested_does, tested_absent, minute_low, purge_none, purge_some}
 use Rattle.std.proofs.Common.{rules}
@@ -43,8 +43,8 @@ returns-in_default-purge_of c = let l = c.args.book.now in
     let r = ranging l _ _ _ _ c.in_default.is c.admit-verdict.ensures in
     purge_none l _ _ _ w _ c.load-h.ensures.fits c.load-h.ensures.is _ _ r c.is_time-in_range.ensures _ (c.wide-issue.ensures ∙ c.number_at.ensures) _ c.purge_of.ensures c.in_default-purge_of.is _ c.refused-in_default-purge_of.ensures
 
-pub narrow-purge-requires : goal.narrow-purge-requires
-narrow-purge-requires c = search (minute_low, rules)
+pub overflow_cast-new : goal.overflow_cast-new
+overflow_cast-new c = search (minute_low, rules)
 
 pub store_held-requires : goal.store_held-requires
 unfolding Bytes
@@ -59,4 +59,4 @@ returns c = let l = c.args.book.now in
     let y : Bytes l = λ i. omega (arith, c.slice_known-1.given i) in
     let w = working l y _ _ _ _ c.in_default.is c.admit-verdict.ensures _ c.find_copy.ensures _ c.in-Some.is in
     let r = ranging l _ _ _ _ c.in_default.is c.admit-verdict.ensures in
-    purge_some l _ _ _ w _ c.load-h.ensures.fits c.load-h.ensures.is _ _ r c.is_time-in_range.ensures _ (c.wide-issue.ensures ∙ c.number_at.ensures) _ c.purge_of.ensures _ c.in-Some-purge_of.is _ c.narrow-purge.ensures _ c.store_held.ensures
+    purge_some l _ _ _ w _ c.load-h.ensures.fits c.load-h.ensures.is _ _ r c.is_time-in_range.ensures _ (c.wide-issue.ensures ∙ c.number_at.ensures) _ c.purge_of.ensures _ c.in-Some-purge_of.is _ refl _ c.store_held.ensures

@@ -1,18 +1,9 @@
-use Rattle.edits.proofs.Places.{leaves_start, leaves_out, leaves_on, without_held, without_fits}
-use Rattle.std.proofs.Common.{rules}
+use mathlib.Core.Path.{sym, ◌∙◌}
+use Rattle.edits.proofs.Places.{without_none, without_held}
 use Rattle.edits.proofs.without_place.Goals as goal
 
-pub loop-i-init : goal.loop-i-init
-loop-i-init c = search (leaves_start, rules)
+pub returns-in-Some-clause-is : goal.returns-in-Some-clause-is
+returns-in-Some-clause-is c = without_held _ _ c.requires _ (sym c.index_of.ensures ∙ c.in-Some.is) _ c.copy_within.ensures.after
 
-pub loop-i-preserved-then-x-p : goal.loop-i-preserved-then-x-p
-loop-i-preserved-then-x-p c = search (leaves_out, rules)
-
-pub loop-i-preserved : goal.loop-i-preserved
-loop-i-preserved c = search (leaves_on, rules)
-
-pub returns-clause-is : goal.returns-clause-is
-returns-clause-is c = search (without_held, rules)
-
-pub returns-clause-fits : goal.returns-clause-fits
-returns-clause-fits c = search (without_fits, rules)
+pub returns-in_default-clause-is : goal.returns-in_default-clause-is
+returns-in_default-clause-is c = without_none _ _ c.requires (sym c.index_of.ensures ∙ c.in_default.is)
