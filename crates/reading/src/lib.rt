@@ -51,23 +51,14 @@ enum Rest {
     Wrong(usize),
 }
 
-// No places.
-fn none() -> Places
-    ensures { result ≡ places_for [] }
-{
-    let held: [u32; 120] = [0; 120];
-    Places { held, count: 0 }
-}
-
 // A block of which no places are held.
 fn bare(found: Found, over: bool) -> Block
     ensures { result ≡ bare_for found over }
 {
-    let places = none();
     Block {
         found,
         over,
-        places,
+        places: Places::new(),
     }
 }
 
@@ -134,8 +125,7 @@ pub fn read_block(text: &[u8], at: usize) -> Block
         at,
         last: None,
     };
-    let mut held: [u32; 120] = [0; 120];
-    let mut count = 0;
+    let mut places = Places::new();
     loop {
         let here = cursor.at;
         let step = cursor.quick_step(text);
@@ -145,20 +135,15 @@ pub fn read_block(text: &[u8], at: usize) -> Block
                     at: next.at,
                     last: Some(prefix),
                 };
-                let put = sets::cover(&mut held, count, prefix, first, last);
-                match put {
-                    Put::Total(total) => {
-                        count = total;
-                    }
+                match places.cover(prefix, first, last) {
+                    Put::Held => {}
                     Put::Over => return found_over(text, at, cursor),
                     Put::Twice => return found_twice(text, here, cursor),
                 }
             }
             Step::Purge(stamp, place) => {
-                let found = Found::Whole(stamp, place);
-                let places = Places { held, count };
                 return Block {
-                    found,
+                    found: Found::Whole(stamp, place),
                     over: false,
                     places,
                 };
@@ -196,6 +181,8 @@ fn refused(number: usize, place: usize) -> Content
     ensures { result ≡ record { purge = Purge.Refused (record { number = number; place = place }); places = places_for [] } }
 {
     let purge = Purge::Refused(Refusal { number, place });
-    let places = none();
-    Content { purge, places }
+    Content {
+        purge,
+        places: Places::new(),
+    }
 }
