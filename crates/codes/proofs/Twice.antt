@@ -17,7 +17,7 @@ use Rattle.calendar.specs.declared.Stamp.{Stamp}
 use Rattle.codes.specs.Elements.{Element, elements_from, said}
 use Rattle.codes.specs.Elements as elements
 use Rattle.codes.specs.Block.{insert_run, Stretch, stretch_of, share, covered_before, twice_from}
-use Rattle.codes.specs.Cursor.{paper_last, purged, step_over, past_end, last_of_line, step_at}
+use Rattle.codes.specs.Cursor.{purged, step_over, past_end, last_of_line, step_at}
 use Rattle.codes.specs.declared.Cursor.{Cursor}
 use Rattle.codes.specs.declared.Step.{Step}
 use Rattle.codes.proofs.Members.{run_here, run_keeps, run_from_lem}
@@ -56,18 +56,18 @@ then_over s before last e next (elements.purge t) q = twice_purge last before e 
 then_over s before last e next elements.wrong q = twice_wrong last before e _ q
 
 pub twice_step : (s : List ℕ) (before : List Stretch) (c : Cursor)
-    → twice_from (paper_last c.last) before (elements_from c.at (drop c.at s)) ≡ twice_then s c.at before (step_at s c)
+    → twice_from c.last before (elements_from c.at (drop c.at s)) ≡ twice_then s c.at before (step_at s c)
 unfolding step_at twice_from
 twice_step s before c =
     by_order c.at (length s)
     (λ h. let r = runs s c.at h in
     rw (r.1.step, next_place_lem s (past_end s r.0) (past_within s r.0 r.1.high))
-    (then_over s before (paper_last c.last) (record { at = c.at; bytes = part s c.at r.0; last = last_of_line s r.0 }) (past_end s r.0) _ refl))
+    (then_over s before c.last (record { at = c.at; bytes = part s c.at r.0; last = last_of_line s r.0 }) (past_end s r.0) _ refl))
     λ h. rw (elements_last s c.at h)
 
 -- ---- by places
 -- a stretch of at least one place
-pub record Some (a : Stretch) : Type 0 where
+pub record Stretched (a : Stretch) : Type 0 where
   pub order : a.from ≤ a.to
 
 -- a place that a stretch and one of these cover
@@ -83,7 +83,7 @@ gathered [] = []
 gathered (b ∷ bs) = insert_run (suc b.to - b.from) b.from (gathered bs)
 
 -- covered before: one of the places gathered lies in the stretch
-pub before_gathered : (a : Stretch) (bs : List Stretch) → Some a → All Some bs → covered_before a bs ≡ true → Both a (gathered bs)
+pub before_gathered : (a : Stretch) (bs : List Stretch) → Stretched a → All Stretched bs → covered_before a bs ≡ true → Both a (gathered bs)
 unfolding covered_before gathered
 before_gathered a [] h all_nil e = apart cc
 before_gathered a (b ∷ bs) h (all_cons k ks) e =

@@ -16,13 +16,12 @@ use Rattle.codes.specs.Places.{place_of, nil}
 use Rattle.codes.specs.Serving.{Low}
 use Rattle.codes.specs.Elements.{Element, elements_from}
 use Rattle.codes.specs.Block.{insert_run, insert_covered, Read, block, wrong_at, read_from, read_block, Stretch, stretch_of, covered_before, twice_from, twice_at}
-use Rattle.codes.specs.Cursor.{paper_last, step_at}
-use Rattle.codes.specs.declared.Last.TheVariants.{Prefix, Nothing}
+use Rattle.codes.specs.Cursor.{step_at}
 use Rattle.codes.specs.declared.Cursor.{Cursor}
 use Rattle.codes.specs.declared.Step.{Step}
 use Rattle.codes.proofs.Bounds.{Below}
 use Rattle.codes.proofs.Steps.{read_then, read_step, Ahead, step_ahead}
-use Rattle.codes.proofs.Twice.{twice_then, twice_step, Some, gathered, before_gathered, gathered_before}
+use Rattle.codes.proofs.Twice.{twice_then, twice_step, Stretched, gathered, before_gathered, gathered_before}
 use Rattle.sets.specs.Held.{vacant, places_for, places_in, Good}
 use Rattle.sets.specs.Runs.{capped, kept, held_by, held_after, is_over, is_twice, holds_in, Grown}
 use Rattle.sets.specs.declared.Places.{Places}
@@ -68,19 +67,19 @@ over_good t (rest.Wrong place) r e = rw e none_good
 
 -- the first repeating element from the reading place on
 abbrev twice_on : List ℕ → Cursor → List Stretch → Option ℕ
-twice_on s c before = twice_from (paper_last c.last) before (elements_from c.at (drop c.at s))
+twice_on s c before = twice_from c.last before (elements_from c.at (drop c.at s))
 
 -- the block from here is the block from its start: all places so far are held, and the first element that covers one of them again is still ahead
 pub record Reads (s : List ℕ) (at : ℕ) (c : Cursor) (held : List ℕ) (count : ℕ) : Type 0 where
   pub before : List Stretch
-  pub each : All Some before
+  pub each : All Stretched before
   pub good : Good (kept held count)
   pub all : take count held ≡ gathered before
-  pub known : Below (paper_last c.last)
-  pub same : read_from (length s) (paper_last c.last) (gathered before) (elements_from c.at (drop c.at s)) ≡ read_block s at
+  pub known : Below c.last
+  pub same : read_from (length s) c.last (gathered before) (elements_from c.at (drop c.at s)) ≡ read_block s at
   pub repeat : twice_on s c before ≡ twice_at s at
 
-pub reads_start : (s : List ℕ) (at : ℕ) (held : List ℕ) → held ≡ replicate 120 0 → Reads s at (record { at = at; last = Nothing }) held 0
+pub reads_start : (s : List ℕ) (at : ℕ) (held : List ℕ) → held ≡ replicate 120 0 → Reads s at (record { at = at; last = None }) held 0
 unfolding read_block twice_at gathered vacant
 reads_start s at held h =
     record {
@@ -94,7 +93,7 @@ reads_start s at held h =
     }
 
 -- covered before, as the set of the places so far tells
-covered_held : (a : Stretch) (before : List Stretch) → Some a → All Some before → holds_in a.from a.to (gathered before) ≡ covered_before a before
+covered_held : (a : Stretch) (before : List Stretch) → Stretched a → All Stretched before → holds_in a.from a.to (gathered before) ≡ covered_before a before
 covered_held a before h k =
     same_test (holds_in a.from a.to (gathered before)) (covered_before a before)
     (λ e. gathered_before a before (holds_out a (gathered before) e))
@@ -129,7 +128,7 @@ module _ (s : List ℕ) (at : ℕ) (c : Cursor) (array : List ℕ) (count : ℕ)
 
     -- the reading place behind it, and the elements from there on
     abbrev behind : Cursor
-    behind = record { at = next.at; last = Prefix p }
+    behind = record { at = next.at; last = Some p }
 
     abbrev rest_of_lem : List Element
     rest_of_lem = elements_from next.at (drop next.at s)
@@ -146,7 +145,7 @@ module _ (s : List ℕ) (at : ℕ) (c : Cursor) (array : List ℕ) (count : ℕ)
     pub reads_known : Known behind
     reads_known = record { low = below_known (Some p) ahead.low.known }
 
-    some_here : Some here
+    some_here : Stretched here
     some_here = record { order = omega (arith, ahead.low.order) }
 
     more_is : insert_covered p n m got ≡ gathered (here ∷ v.before)
