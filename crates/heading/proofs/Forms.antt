@@ -1,65 +1,52 @@
 -- Line 1 and line 2, by their bytes: one law for each way out of the code. Assumes nothing.
-use Prim.Native.Nat.{ℕ, suc, ◌+◌, ◌-◌, ◌≤◌, ◌<◌}
+use Prim.Native.Nat.{ℕ, zero, suc, ◌-◌, ◌≤◌, ◌<◌}
 use native.Mathlib.Omega.{arith}
 use Prim.Native.String.{String}
 use mathlib.Core.Path.{◌≡◌, refl, sym, ap, ◌∙◌}
 use mathlib.Core.List.{List, [], ◌∷◌, ◌++◌}
 use mathlib.Core.Bool.{Bool, true, false, ◌&&◌, ◌||◌, and-true, and-false, and_assoc}
-use lib.ListN.{length, get_or, drop, drop_of_length-le}
+use lib.ListN.{length, get_or, take, drop, drop_of_length-le, length-drop}
 use lib.Seq.{drop-cons, drop-drop}
 use lib.Dec.{eqb}
-use borrow.Author.Tests.{lt-leb, eqb-true}
+use borrow.Author.Tests.{ne_eqb, eqb-true}
 use Rattle.codes.proofs.Forms.{at_byte}
-use Rattle.laws.proofs.Tests.{apart, and_left, and_right}
-use Rattle.lines.specs.Bytes.{between, capital, digit, word, begins, exactly}
+use Rattle.laws.proofs.Tests.{apart, impossible, and_left, and_right}
+use Rattle.std.specs.List.{list_all}
+use Rattle.lines.specs.Bytes.{Kind, between, capital, digit, word, begins, exactly}
 use Rattle.lines.proofs.Strings.{begins_is, begins_append, exactly_is}
 use Rattle.calendar.specs.Calendar.{is_time}
 use Rattle.codes.specs.Places.{two_of}
 use Rattle.codes.specs.Elements.{stamp_of}
-use Rattle.heading.specs.Heading.{times, heading_form, amendment, amended_form, is_heading, heading_of, capital_or_digit, identifier_form, is_identifier}
+use Rattle.heading.specs.Heading.{times, heading_form, amendment, amended_form, is_heading, heading_of, is_identifier}
 use Rattle.heading.specs.Paper.{bbb_form, is_amended, paper_headed}
 use Rattle.heading.specs.declared.Bbb.TheVariants.{Nothing, Code}
 use Rattle.heading.specs.declared.Headed.TheVariants.{Right, Wrong}
 
--- ---- bytes of one kind: the answer from byte j on is the answer from the start
-pub record Ran (s : List ℕ) (k n low high j : ℕ) : Type 0 where
-  pub most : j ≤ n
-  pub same : begins (times n (between low high)) (drop k s) ≡ begins (times (n - j) (between low high)) (drop (k + j) s)
+-- ---- bytes of one kind, as std tests them
+run_all : (k : Kind) (n : ℕ) (t : List ℕ) → n ≤ length t → list_all k (take n t) ≡ begins (times n k) t
+unfolding begins
+run_all k zero t h = refl
+run_all k (suc n) [] h = impossible (omega arith)
+run_all k (suc n) (b ∷ t) h = ap (λ (x : Bool). k b && x) (run_all k n t (omega arith))
 
-pub ran_start : (s : List ℕ) (k n low high : ℕ) → Ran s k n low high 0
-ran_start s k n low high = let a : n - 0 ≡ n = omega arith in let b : k + 0 ≡ k = omega arith in record { most = omega arith; same = rw (a, b) }
+pub run_in : (s : List ℕ) (from to : ℕ) (k : Kind) (p : List ℕ) → p ≡ take (to - from) (drop from s) → to ≤ length s → list_all k p ≡ begins (times (to - from) k) (drop from s)
+run_in s from to k p e l = ap (list_all k) e ∙ run_all k (to - from) (drop from s) (omega (arith, length-drop from s))
 
-module _ (s : List ℕ) (k n low high j : ℕ) (v : Ran s k n low high j) where
-  pub ran_done : n ≤ j → true ≡ begins (times n (between low high)) (drop k s)
-  unfolding begins
-  ran_done h = let z : n - j ≡ 0 = omega arith in sym (v.same ∙ rw z)
+run_no : (k : Kind) (n : ℕ) (t : List ℕ) → length t < n → false ≡ begins (times n k) t
+unfolding begins
+run_no k zero t h = impossible (omega arith)
+run_no k (suc n) [] h = refl
+run_no k (suc n) (b ∷ t) h = rw (← run_no k n t (omega arith)) (sym (and-false (k b)))
 
-  module _ (pos : 0 < low) (h : j < n) (b : ℕ) (eb : b ≡ get_or s (k + j) 0) (t : Bool) (et : t ≡ between low high b) where
-    one : begins (times (n - j) (between low high)) (drop (k + j) s) ≡ (t && begins (times (n - (j + 1)) (between low high)) (drop (k + (j + 1)) s))
-    one =
-        let z : n - j ≡ suc (n - (j + 1)) = omega arith in
-        let y : k + (j + 1) ≡ k + j + 1 = omega arith in
-        let no0 : between low high 0 ≡ false = rw (lt-leb low 0 pos) in
-        rw (z, y, et, eb, ← drop-drop 1 (k + j) s)
-        (begins_append (between low high ∷ []) (times (n - (j + 1)) (between low high)) (drop (k + j) s)
-        ∙ ap (λ (x : Bool). x && begins (times (n - (j + 1)) (between low high)) (drop 1 (drop (k + j) s)))
-        (begins_is (between low high ∷ []) s (k + j) (no0, tt) ∙ and-true (between low high (get_or s (k + j) 0))))
-
-    pub ran_on : t ≡ true → Ran s k n low high (j + 1)
-    ran_on y = record { most = omega arith; same = v.same ∙ one ∙ rw y }
-
-    pub ran_no : t ≡ false → false ≡ begins (times n (between low high)) (drop k s)
-    ran_no y = sym (v.same ∙ one ∙ rw y)
+pub run_short : (s : List ℕ) (from to : ℕ) (k : Kind) → from < to → length s < to → false ≡ begins (times (to - from) k) (drop from s)
+run_short s from to k h l = run_no k (to - from) (drop from s) (omega (arith, length-drop from s))
 
 -- ---- `TTAAii CCCC DDHHMM`
-pub headed_by : (s : List ℕ) (a b d f : Bool) (c e : ℕ)
-    → a ≡ begins (times 4 capital) (drop 0 s) → b ≡ begins (times 2 digit) (drop 4 s) → c ≡ get_or s 6 0
-    → d ≡ begins (times 4 capital) (drop 7 s) → e ≡ get_or s 11 0 → f ≡ begins (times 6 digit) (drop 12 s)
-    → (a && b && eqb c 32 && d && eqb e 32 && f) ≡ begins heading_form s
-headed_by s a b d f c e ea eb ec ed ee ef =
-    rw (ea, eb, ec, ed, ee, ef)
-    (sym
-    (simp (begins_append (times 4 capital) (times 2 digit ++ (word " " ++ (times 4 capital ++ (word " " ++ times 6 digit)))) s, begins_append (times 2 digit) (word " " ++ (times 4 capital ++ (word " " ++ times 6 digit))) (drop 4 s), begins_append (word " ") (times 4 capital ++ (word " " ++ times 6 digit)) (drop 6 s), begins_append (times 4 capital) (word " " ++ times 6 digit) (drop 7 s), begins_append (word " ") (times 6 digit) (drop 11 s), drop-drop, at_byte s 6 32 refl, at_byte s 11 32 refl, and_assoc)))
+pub headed_is : (s : List ℕ) → begins heading_form s ≡
+    (begins (times 4 capital) s && begins (times 2 digit) (drop 4 s) && eqb (get_or s 6 0) 32
+    && begins (times 4 capital) (drop 7 s) && eqb (get_or s 11 0) 32 && begins (times 6 digit) (drop 12 s))
+headed_is s =
+    simp (begins_append (times 4 capital) (times 2 digit ++ (word " " ++ (times 4 capital ++ (word " " ++ times 6 digit)))) s, begins_append (times 2 digit) (word " " ++ (times 4 capital ++ (word " " ++ times 6 digit))) (drop 4 s), begins_append (word " ") (times 4 capital ++ (word " " ++ times 6 digit)) (drop 6 s), begins_append (times 4 capital) (word " " ++ times 6 digit) (drop 7 s), begins_append (word " ") (times 6 digit) (drop 11 s), drop-drop, at_byte s 6 32 refl, at_byte s 11 32 refl, and_assoc)
 
 -- ---- BBB: the space and the last byte are the same in all three forms
 spread : (w z a b c d e f : Bool)
@@ -144,24 +131,6 @@ module _ (s : List ℕ) (h : Bool) (d o m : ℕ) (t : Bool) (eh : h ≡ begins h
     heading_wrong f = rw (whole a ea false (neither (eqb (length s) 18 && h) (eqb (length s) 22 && (h && a)) t e f))
 
 -- ---- line 2: the first four bytes are the same in all three forms
-pub name_by : (s : List ℕ) (k b : ℕ) → b ≡ get_or s k 0 → (x y : Bool) → x ≡ capital b → y ≡ digit b → (x || y) ≡ capital_or_digit (get_or s k 0)
-name_by s k b eb x y p q = rw (p, q, eb)
-
-ends : (n a b c d e f x y : Bool)
-    → (n && (a && b && c && d && (e && f || e && y || x && y)))
-    ≡ (n && (a && (b && (c && (d && (e && (f && true)))))) || n && (a && (b && (c && (d && (e && (y && true)))))) || n && (a && (b && (c && (d && (x && (y && true)))))))
-ends false a b c d e f x y = refl
-ends true false b c d e f x y = refl
-ends true true false c d e f x y = refl
-ends true true true false d e f x y = refl
-ends true true true true false e f x y = refl
-ends true true true true true e f x y = simp and-true
-
-module _ (s : List ℕ) (a b c d e f : Bool) (x y : ℕ)
-    (ea : a ≡ capital_or_digit (get_or s 0 0)) (eb : b ≡ capital_or_digit (get_or s 1 0)) (ec : c ≡ capital_or_digit (get_or s 2 0)) (ed : d ≡ capital_or_digit (get_or s 3 0))
-    (ee : e ≡ capital_or_digit (get_or s 4 0)) (ef : f ≡ capital_or_digit (get_or s 5 0)) (ex : x ≡ get_or s 4 0) (ey : y ≡ get_or s 5 0) where
-  pub identifier_by : (eqb (length s) 6 && (a && b && c && d && (e && f || e && eqb y 32 || eqb x 32 && eqb y 32))) ≡ is_identifier s
-  unfolding is_identifier
-  identifier_by =
-      ends (eqb (length s) 6) a b c d e f (eqb x 32) (eqb y 32)
-      ∙ sym (simp (exactly_is, begins_is (identifier_form (times 2 capital_or_digit)) s 0 (refl, (refl, (refl, (refl, (refl, (refl, tt)))))), begins_is (identifier_form (capital_or_digit ∷ word " ")) s 0 (refl, (refl, (refl, (refl, (refl, (refl, tt)))))), begins_is (identifier_form (word "  ")) s 0 (refl, (refl, (refl, (refl, (refl, (refl, tt)))))), ea, eb, ec, ed, ee, ef, ex, ey))
+pub identifier_long : (s : List ℕ) → 7 ≤ length s → false ≡ is_identifier s
+unfolding is_identifier
+identifier_long s h = simp (exactly_is, ne_eqb (length s) 6 (λ e. omega arith))
