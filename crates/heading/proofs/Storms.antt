@@ -1,4 +1,5 @@
 -- The office line and its storm, by their bytes: one law for each way out of the code. Assumes nothing.
+use Rattle.std.specs.Prelude.{Option, None, Some, option_map}
 use Prim.Native.Nat.{ℕ, ◌+◌, ◌-◌, ◌*◌}
 use mathlib.Core.Path.{◌≡◌, refl, ◌∙◌}
 use mathlib.Core.List.{List, ◌++◌}
@@ -12,14 +13,9 @@ use Rattle.lines.proofs.Strings.{begins_append, exactly_is}
 use Rattle.codes.specs.Places.{two_of}
 use Rattle.heading.specs.Heading.{times}
 use Rattle.heading.specs.Storm.{storm_form, names_storm, basin_of, class_of, storm_spelled, storm_of}
-use Rattle.heading.specs.Paper.{paper_basin_found, paper_class_found, paper_named}
+use Rattle.heading.specs.Paper.{paper_basin, paper_class, paper_named}
 use Rattle.heading.specs.declared.Basin.{Basin}
-use Rattle.heading.specs.declared.BasinFound.{BasinFound}
-use Rattle.heading.specs.declared.BasinFound.TheVariants as basin
 use Rattle.heading.specs.declared.Class.{Class}
-use Rattle.heading.specs.declared.ClassFound.{ClassFound}
-use Rattle.heading.specs.declared.ClassFound.TheVariants as class
-use Rattle.heading.specs.declared.Storm.TheVariants as found
 use Rattle.heading.specs.declared.Named.{Named}
 use Rattle.heading.specs.declared.Named.TheVariants.{Right, Wrong}
 
@@ -32,16 +28,16 @@ names_is s e h =
     ∙ simp (begins_append (word " ") (times 2 capital ++ times 6 digit) e, begins_append (times 2 capital) (times 6 digit) (drop 1 e), drop-drop, at_byte e 0 32 refl, and_assoc))
 
 -- ---- the storm of eight bytes
-module _ (e : List ℕ) (n : ℕ) (en : n ≡ two_of (drop 2 e)) (f : BasinFound) (ef : paper_basin_found f ≡ basin_of e) where
-  pub storm_elsewhere : f ≡ basin.Nothing → paper_named Wrong ≡ storm_spelled e
+module _ (e : List ℕ) (n : ℕ) (en : n ≡ two_of (drop 2 e)) (f : Option Basin) (ef : option_map paper_basin f ≡ basin_of e) where
+  pub storm_elsewhere : f ≡ None → paper_named Wrong ≡ storm_spelled e
   storm_elsewhere p = rw (← ef, p)
 
-  module _ (b : Basin) (p : f ≡ basin.In b) (g : ClassFound) (eg : paper_class_found g ≡ class_of n) where
-    pub storm_zero : g ≡ class.Nothing → paper_named Wrong ≡ storm_spelled e
+  module _ (b : Basin) (p : f ≡ Some b) (g : Option Class) (eg : option_map paper_class g ≡ class_of n) where
+    pub storm_zero : g ≡ None → paper_named Wrong ≡ storm_spelled e
     storm_zero q = rw (← en, ← ef, p, ← eg, q)
 
-    pub storm_found : (c : Class) → g ≡ class.Of c → (y z : ℕ) → y ≡ two_of (drop 4 e) → z ≡ two_of (drop 6 e)
-        → paper_named (Right (found.Found (record { basin = b; class = c; number = n; year = 100 * y + z }))) ≡ storm_spelled e
+    pub storm_found : (c : Class) → g ≡ Some c → (y z : ℕ) → y ≡ two_of (drop 4 e) → z ≡ two_of (drop 6 e)
+        → paper_named (Right (Some (record { basin = b; class = c; number = n; year = 100 * y + z }))) ≡ storm_spelled e
     storm_found c q y z ey ez = rw (← en, ← ey, ← ez, ← ef, p, ← eg, q)
 
 -- ---- what the office line says
@@ -50,6 +46,6 @@ module _ (s : List ℕ) (t : Bool) (et : t ≡ names_storm s) where
   unfolding storm_of
   storm_named y e ee r q = q ∙ rw (← et, y, ← ee)
 
-  pub storm_unnamed : t ≡ false → paper_named (Right found.None) ≡ storm_of s
+  pub storm_unnamed : t ≡ false → paper_named (Right None) ≡ storm_of s
   unfolding storm_of
   storm_unnamed y = rw (← et, y)

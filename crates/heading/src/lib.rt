@@ -1,31 +1,22 @@
 // Line 1, line 2 and the office line of a bulletin: document 01, "Text and lines".
 #![tactic(auto)]
 
-ghost use Rattle.std.specs.Prelude.{◌≡◌, ◌-◌, ◌≤◌, ◌<◌, length, get_or, drop};
+ghost use Rattle.std.specs.Prelude.{◌≡◌, option_map, ◌-◌, ◌≤◌, ◌<◌, length, get_or, drop};
 ghost use Rattle.lines.specs.Bytes.{between, begins};
 ghost use Rattle.heading.specs.Heading.{times, heading_form, heading_of, capital_or_digit, is_identifier};
 ghost use Rattle.heading.specs.Storm.{is_office, names_storm, basin_of, class_of, storm_spelled, storm_of};
-ghost use Rattle.heading.specs.Paper.{is_amended, paper_headed, paper_basin_found, paper_class_found, paper_named};
+ghost use Rattle.heading.specs.Paper.{is_amended, paper_heading, paper_basin, paper_class, paper_named};
 
 use calendar::Stamp;
 
-// BBB.
+// BBB's three letters.
 #[derive(Clone, Copy)]
-pub enum Bbb {
-    Nothing,
-    Code(u8, u8, u8),
-}
+pub struct Bbb(pub u8, pub u8, pub u8);
 
 #[derive(Clone, Copy)]
 pub struct Heading {
     pub stamp: Stamp,
-    pub bbb: Bbb,
-}
-
-#[derive(Clone, Copy)]
-pub enum Headed {
-    Right(Heading),
-    Wrong,
+    pub bbb: Option<Bbb>,
 }
 
 #[derive(Clone, Copy)]
@@ -54,27 +45,9 @@ pub struct StormId {
 }
 
 #[derive(Clone, Copy)]
-pub enum Storm {
-    None,
-    Found(StormId),
-}
-
-#[derive(Clone, Copy)]
 pub enum Named {
-    Right(Storm),
+    Right(Option<StormId>),
     Wrong,
-}
-
-#[derive(Clone, Copy)]
-enum BasinFound {
-    In(Basin),
-    Nothing,
-}
-
-#[derive(Clone, Copy)]
-enum ClassFound {
-    Of(Class),
-    Nothing,
 }
 
 // Whether the line's bytes from one place up to another are all from `low` to `high`.
@@ -113,8 +86,8 @@ fn is_amended(line: &[u8]) -> bool
 }
 
 // Line 1, without its end.
-pub fn read_heading(line: &[u8]) -> Headed
-    ensures { paper_headed result ≡ heading_of line.now }
+pub fn read_heading(line: &[u8]) -> Option<Heading>
+    ensures { option_map paper_heading result ≡ heading_of line.now }
 {
     let n = line.len();
     let headed = is_headed(line);
@@ -125,9 +98,9 @@ pub fn read_heading(line: &[u8]) -> Headed
     };
     let time = calendar::is_time(stamp);
     if (n == 18) & headed & time {
-        return Headed::Right(Heading {
+        return Some(Heading {
             stamp,
-            bbb: Bbb::Nothing,
+            bbb: None,
         });
     }
     let amended = is_amended(line);
@@ -135,12 +108,12 @@ pub fn read_heading(line: &[u8]) -> Headed
     let b = lines::byte(line, 20);
     let c = lines::byte(line, 21);
     if (n == 22) & (headed & amended) & time {
-        return Headed::Right(Heading {
+        return Some(Heading {
             stamp,
-            bbb: Bbb::Code(a, b, c),
+            bbb: Some(Bbb(a, b, c)),
         });
     }
-    Headed::Wrong
+    None
 }
 
 fn is_name(b: u8) -> bool
@@ -185,29 +158,29 @@ fn names_storm(line: &[u8]) -> bool
 }
 
 #[tactic(auto, unfolding(crate::specs::Storm::basin_of, lines::specs::Bytes::begins))]
-fn basin_of(e: &[u8]) -> BasinFound
-    ensures { paper_basin_found result ≡ basin_of e.now }
+fn basin_of(e: &[u8]) -> Option<Basin>
+    ensures { option_map paper_basin result ≡ basin_of e.now }
 {
     match e.first_chunk() {
-        Some(b"AL") => BasinFound::In(Basin::Al),
-        Some(b"SL") => BasinFound::In(Basin::Sl),
-        Some(b"EP") => BasinFound::In(Basin::Ep),
-        Some(b"CP") => BasinFound::In(Basin::Cp),
-        Some(b"WP") => BasinFound::In(Basin::Wp),
-        _ => BasinFound::Nothing,
+        Some(b"AL") => Some(Basin::Al),
+        Some(b"SL") => Some(Basin::Sl),
+        Some(b"EP") => Some(Basin::Ep),
+        Some(b"CP") => Some(Basin::Cp),
+        Some(b"WP") => Some(Basin::Wp),
+        _ => None,
     }
 }
 
 #[tactic(auto, unfolding(crate::specs::Storm::class_of))]
-fn class_of(n: usize) -> ClassFound
-    ensures { paper_class_found result ≡ class_of n }
+fn class_of(n: usize) -> Option<Class>
+    ensures { option_map paper_class result ≡ class_of n }
 {
     match n {
-        1..=49 => ClassFound::Of(Class::Cyclone),
-        50..=79 => ClassFound::Of(Class::Internal),
-        80..=89 => ClassFound::Of(Class::Training),
-        90..=99 => ClassFound::Of(Class::Disturbance),
-        _ => ClassFound::Nothing,
+        1..=49 => Some(Class::Cyclone),
+        50..=79 => Some(Class::Internal),
+        80..=89 => Some(Class::Training),
+        90..=99 => Some(Class::Disturbance),
+        _ => None,
     }
 }
 
@@ -218,13 +191,13 @@ fn storm_in(e: &[u8]) -> Named
     let number = codes::two(e, 2);
     let century = codes::two(e, 4);
     let rest = codes::two(e, 6);
-    let BasinFound::In(basin) = basin_of(e) else {
+    let Some(basin) = basin_of(e) else {
         return Named::Wrong;
     };
-    let ClassFound::Of(class) = class_of(number) else {
+    let Some(class) = class_of(number) else {
         return Named::Wrong;
     };
-    Named::Right(Storm::Found(StormId {
+    Named::Right(Some(StormId {
         basin,
         class,
         number,
@@ -239,5 +212,5 @@ pub fn read_storm(line: &[u8]) -> Named
     if names_storm(line) {
         return storm_in(last(line, 8));
     }
-    Named::Right(Storm::None)
+    Named::Right(None)
 }
