@@ -1,11 +1,11 @@
 // Line 1, line 2 and the office line of a bulletin: document 01, "Text and lines".
 #![tactic(auto)]
 
-ghost use Rattle.std.specs.Prelude.{◌≡◌, option_map, ◌-◌, ◌≤◌, ◌<◌, length, get_or, drop};
+ghost use Rattle.std.specs.Prelude.{◌≡◌, if◌then◌else◌, option_map, ◌-◌, ◌≤◌, ◌<◌, length, get_or, drop};
 ghost use Rattle.lines.specs.Bytes.{between, begins};
-ghost use Rattle.heading.specs.Heading.{times, heading_form, heading_of, capital_or_digit, is_identifier};
+ghost use Rattle.heading.specs.Heading.{times, heading_form, bbb_after, heading_of, capital_or_digit, is_identifier};
 ghost use Rattle.heading.specs.Storm.{is_office, names_storm, basin_of, class_of, storm_spelled, storm_of};
-ghost use Rattle.heading.specs.Paper.{is_amended, paper_heading, paper_basin, paper_class, paper_named};
+ghost use Rattle.heading.specs.Paper.{is_amendment, paper_bbb, paper_heading, paper_basin, paper_class, paper_named};
 
 use calendar::Stamp;
 
@@ -74,46 +74,35 @@ fn is_headed(line: &[u8]) -> bool
         && run(line, 12, 18, b'0', b'9')
 }
 
-// Whether a space and BBB stand from byte 18 on.
-#[tactic(auto, unfolding(crate::specs::Paper::is_amended, lines::specs::Bytes::begins))]
-fn is_amended(line: &[u8]) -> bool
-    ensures { result ≡ is_amended (drop 18 line.now) }
+// BBB, if a space and BBB are what stands behind DDHHMM: AA, CC or RR, and then A..X or Z.
+#[tactic(auto, unfolding(crate::specs::Paper::is_amendment, lines::specs::Bytes::exactly))]
+fn amendment(rest: &[u8]) -> Option<Bbb>
+    ensures { option_map paper_bbb result ≡ (if is_amendment rest.now then bbb_after rest.now else None) }
 {
-    match line.get(18..).unwrap_or(&[]) {
-        [b' ', a @ (b'A' | b'C' | b'R'), b, b'A'..=b'X' | b'Z', ..] => a == b,
-        _ => false,
-    }
+    let [b' ', a @ (b'A' | b'C' | b'R'), b, c @ (b'A'..=b'X' | b'Z')] = *rest else {
+        return None;
+    };
+    (a == b).then_some(Bbb(a, b, c))
 }
 
-// Line 1, without its end.
+// Line 1, without its end: behind DDHHMM nothing follows, or a space and BBB.
+#[tactic(auto, using(crate::proofs::Forms::headed_long))]
 pub fn read_heading(line: &[u8]) -> Option<Heading>
     ensures { option_map paper_heading result ≡ heading_of line.now }
 {
-    let n = line.len();
-    let headed = is_headed(line);
     let stamp = Stamp {
         day: codes::two(line, 12),
         hour: codes::two(line, 14),
         minute: codes::two(line, 16),
     };
-    let time = calendar::is_time(stamp);
-    if (n == 18) & headed & time {
-        return Some(Heading {
-            stamp,
-            bbb: None,
-        });
+    if !is_headed(line) || !calendar::is_time(stamp) {
+        return None;
     }
-    let amended = is_amended(line);
-    let a = lines::byte(line, 19);
-    let b = lines::byte(line, 20);
-    let c = lines::byte(line, 21);
-    if (n == 22) & (headed & amended) & time {
-        return Some(Heading {
-            stamp,
-            bbb: Some(Bbb(a, b, c)),
-        });
-    }
-    None
+    let bbb = match &line[18..] {
+        [] => None,
+        rest => Some(amendment(rest)?),
+    };
+    Some(Heading { stamp, bbb })
 }
 
 fn is_name(b: u8) -> bool
