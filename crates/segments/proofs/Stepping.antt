@@ -3,10 +3,10 @@ use Prim.Native.Nat.{ℕ, zero, suc, ◌+◌, ◌-◌, ◌*◌, ◌≤◌, ◌<�
 use native.Mathlib.Nat.{zero-add}
 use native.Mathlib.Numerals.{add-one}
 use native.Mathlib.Omega.{arith}
-use mathlib.Core.Path.{◌≡◌, refl, sym, ap, ap₂, ◌∙◌}
-use mathlib.Core.List.{List, [], ◌∷◌, ◌++◌, append_assoc, append-nil}
+use mathlib.Core.Path.{◌≡◌, refl, sym, ap, ◌∙◌}
+use mathlib.Core.List.{List, [], ◌∷◌, ◌++◌, append_assoc}
 use Rattle.std.specs.Prelude.{Option, None, Some}
-use lib.ListN.{length, take, drop, set, length-set, take-append-drop}
+use lib.ListN.{length, take, drop, set, length-set}
 use lib.Seq.{length-take-le, take-suc-set, drop-drop}
 use Rattle.laws.proofs.Tests.{apart}
 use Rattle.laws.proofs.Lists.{all_set}
@@ -28,18 +28,17 @@ use Rattle.segments.specs.Search.{from_first}
 use Rattle.segments.specs.Searching.{lines_on, found_lines, LineFrom, Inside, next_in}
 use Rattle.segments.specs.Segments as segments
 use Rattle.segments.specs.Segments.{segments_from, opened, runs_to, past_purge}
-use Rattle.segments.specs.Seen.{unread, segments_for, segments_held, Few, Sized}
-use Rattle.segments.specs.Listing.{seen_of, seen_from, seen_before, then_seen, Begun, Stepped, paper_listed}
+use Rattle.segments.specs.Seen.{unread, segments_for, Few, Sized}
+use Rattle.segments.specs.Listing.{seen_of, seen_from, seen_before, then_seen, Begun, Stepped}
 use Rattle.segments.specs.KeptAt.{keep_each}
 use Rattle.segments.specs.KeptBy.{places_at, kept_by, kept_from}
 use Rattle.segments.specs.declared.Segment.{Segment}
 use Rattle.segments.specs.declared.Segments.{Segments}
 use Rattle.segments.specs.declared.Next.{Next}
 use Rattle.segments.specs.declared.Next.TheVariants as next
-use Rattle.segments.specs.declared.Ending.TheVariants as ending
 use Rattle.segments.proofs.Seeking.{next_is}
 use Rattle.segments.proofs.Purges.{past_is, block_behind, block_skips}
-use Rattle.segments.proofs.Keeping.{kept_length_lem, kept_more}
+use Rattle.segments.proofs.Keeping.{kept_more}
 
 -- ---- the segment that starts at a
 module _ (s : List ℕ) (issue : ℕ) (o : Span) (eo : span_at s o.start ≡ Some o) (c : Content) (ec : c ≡ content_for (placed_at s issue o.start)) where
@@ -177,14 +176,6 @@ unread_few = all_cons low (all_cons low (all_cons low (all_cons low (all_cons lo
 pub unread_sized : (gs : Segments) → gs ≡ segments_for [] → Sized gs
 unread_sized gs e = rw e (record { long = unread_long; few = omega arith; each = unread_few })
 
--- segments by value are those that are held, and unread ones behind them
-pub segments_are : (gs : Segments) (hs : List Segment) → length gs.held ≡ 8 → gs.count ≤ 8 → drop gs.count gs.held ≡ drop gs.count unread → segments_held gs ≡ hs → gs ≡ segments_for hs
-segments_are gs hs long few rest e =
-    let n : gs.count ≡ length hs = sym (length-take-le gs.count gs.held (omega arith)) ∙ ap (λ (l : List Segment). length l) e in
-    let a : gs.held ≡ hs ++ drop (length hs) unread =
-    sym (take-append-drop gs.count gs.held) ∙ ap₂ (λ (x y : List Segment). x ++ y) e (rest ∙ ap (λ (k : ℕ). drop k unread) n) in
-    λ i. record { held = a i; count = n i }
-
 -- a store leaves what is behind it
 behind_set : {A : Type 0} (l : List A) (k : ℕ) (x : A) → drop (k + 1) (set l k x) ≡ drop (k + 1) l
 behind_set l k x = rw add-one (go l k)
@@ -216,39 +207,13 @@ listing_start s issue from ks held h =
     }
 
 module _ (s : List ℕ) (issue from : ℕ) (ks₀ ks : List ℕ) (held : List Segment) (count at : ℕ) (v : Listing s issue from ks₀ ks held count at) where
-  pub listing_size : (d : List ℕ) → length d ≡ length ks → length d ≡ length ks₀
-  listing_size d h = h ∙ ap (λ (l : List ℕ). length l) v.kept ∙ kept_length_lem (places_at s issue) 0 (take count held) ks₀
-
-  pub listing_segments : record { held = held; count = count } ≡ segments_for (take count held)
-  listing_segments = segments_are (record { held = held; count = count }) (take count held) v.long v.few v.rest refl
-
-  pub listing_sized : Sized (record { held = held; count = count })
-  listing_sized = record { long = v.long; few = v.few; each = v.each }
-
-  -- where the list ends, what was kept before is kept
-  module _ (r : Next) (d : List ℕ) (k : d ≡ kept_by s issue (120 * count) r ks) where
-    pub kept_end : r ≡ next.Nothing → d ≡ kept_from s issue 0 (take count held) ks₀
-    kept_end q = k ∙ ap (λ (x : Next). kept_by s issue (120 * count) x ks) q ∙ v.kept
-
-    pub kept_no : (f : Refusal) → r ≡ next.Refused f → d ≡ kept_from s issue 0 (take count held) ks₀
-    kept_no f q = k ∙ ap (λ (x : Next). kept_by s issue (120 * count) x ks) q ∙ v.kept
-
   module _ (r : Next) (e : Stepped s issue (8 - count) at r) where
     listed : seen_from 8 s issue from ≡ seen_before (take count held) (then_seen s issue (8 - count - 1) r)
     listed = v.same ∙ ap (seen_before (take count held)) e.same
 
-    pub listing_end : r ≡ next.Nothing → paper_listed (record { ending = ending.Whole; segments = record { held = held; count = count } }) ≡ seen_from 8 s issue from
-    listing_end q = sym (listed ∙ rw (q, append-nil (take count held)))
-
-    pub listing_refused : (f : Refusal) → r ≡ next.Refused f → paper_listed (record { ending = ending.Refused f; segments = record { held = held; count = count } }) ≡ seen_from 8 s issue from
-    listing_refused f q = sym (listed ∙ rw q)
-
     module _ (g : Segment) (q : r ≡ next.One g) where
-      pub listing_room : count < 8
+      listing_room : count < 8
       listing_room = omega (arith, e.room g q)
-
-      pub listing_less : 8 - (count + 1) < 8 - count
-      listing_less = omega (arith, listing_room)
 
       taken : take (count + 1) (set held count g) ≡ take count held ++ (g ∷ [])
       taken = rw (add-one count) (take-suc-set held count g (omega (arith, listing_room, v.long)))
