@@ -8,7 +8,7 @@ use Rattle.std.specs.Prelude.{Option, None, Some}
 use lib.ListN.{length, drop, length-drop}
 use borrow.Author.Tests.{eqb-true}
 use Rattle.laws.proofs.Tests.{by, apart, and_left}
-use Rattle.refusal.specs.Numbers.{wrong_block, no_segment, wrong_storm}
+use Rattle.refusal.specs.declared.Reason.TheVariants.{WrongBlock, NoSegment, WrongStorm}
 use Rattle.refusal.specs.Answer.{Answer, ok, no, refusal_for}
 use Rattle.lines.specs.Bytes.{begins, exactly}
 use Rattle.lines.specs.Lines.{Line, blank, opens}
@@ -101,14 +101,14 @@ module _ (s : List ℕ) (from : ℕ) (f : Found) (ef : found_lines s f ≡ from_
         pub storm_room : 8 ≤ l.end
         storm_room = omega (arith, end_is, long)
 
-        pub storm_wrong : paper_stormed (stormed.Refused (refusal_for wrong_storm (l.end - 8))) ≡ office_storm (from_first is_office (up_to_first closes (lines_on s from)))
+        pub storm_wrong : paper_stormed (stormed.Refused (refusal_for WrongStorm (l.end - 8))) ≡ office_storm (from_first is_office (up_to_first closes (lines_on s from)))
         storm_wrong =
             let e : a + (length line - 8) ≡ l.end - 8 = omega (arith, end_is, long) in
             sym (said_is ∙ ap (λ (k : Named). storm_said (line_at s a) (paper_named k)) y ∙ rw (body_is, e))
 
 -- ---- line 3
 module _ (s : List ℕ) (third : ℕ) (past : List Line) where
-  pub place_none : (f : Lined) → paper_lined f ≡ span_at s third → f ≡ lined.Nothing → paper_start s (start.Refused (refusal_for no_segment (length s))) ≡ from_line3 past (length s) (lines_on s third)
+  pub place_none : (f : Lined) → paper_lined f ≡ span_at s third → f ≡ lined.Nothing → paper_start s (start.Refused (refusal_for NoSegment (length s))) ≡ from_line3 past (length s) (lines_on s third)
   place_none f e q = rw (lines_last s third (found_none s third f e q))
 
   module _ (f : Lined) (ef : paper_lined f ≡ span_at s third) (l : Span) (el : f ≡ lined.Line l) (line : List ℕ) (en : line ≡ part s third l.end) (t : Bool) (et : t ≡ blank line) where
@@ -122,5 +122,5 @@ module _ (s : List ℕ) (third : ℕ) (past : List Line) where
       pub place_opens : o ≡ true → paper_start s (start.From third) ≡ from_line3 past (length s) (lines_on s third)
       place_opens y = sym (line3 ∙ rw (n, ← eo, y))
 
-      pub place_wrong : o ≡ false → paper_start s (start.Refused (refusal_for wrong_block third)) ≡ from_line3 past (length s) (lines_on s third)
+      pub place_wrong : o ≡ false → paper_start s (start.Refused (refusal_for WrongBlock third)) ≡ from_line3 past (length s) (lines_on s third)
       place_wrong y = sym (line3 ∙ rw (n, ← eo, y))

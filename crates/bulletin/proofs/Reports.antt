@@ -6,7 +6,7 @@ use mathlib.Core.List.{List, [], ◌∷◌}
 use Rattle.std.specs.Prelude.{Option}
 use lib.ListN.{length, take}
 use Rattle.laws.proofs.Tests.{impossible, apart}
-use Rattle.refusal.specs.Numbers.{no_segment}
+use Rattle.refusal.specs.declared.Reason.TheVariants.{NoSegment}
 use Rattle.refusal.specs.Answer.{Answer, ok, no, refusal_for, and_then, paper_refusal, paper_verdict}
 use Rattle.refusal.specs.declared.Refusal.{Refusal}
 use Rattle.refusal.specs.declared.Verdict.{Verdict}
@@ -82,8 +82,8 @@ module _ (s : List ℕ) (from : ℕ) (h : Head) (l : Listed) (el : paper_listed 
     unfolding and_then
     whole_is = listed_is ∙ ap (λ (e : Ending). and_then (listed_by e l.segments) (some_seen (length s) (report_of h))) q
 
-    pub listed_none : l.segments.count ≡ 0 → (b : Bulletin) → b ≡ refused_for (refusal_for no_segment (length s)) → Answers s (listed_of s from h) ks d b
-    listed_none z b e = refused_answers s (listed_of s from h) ks d b (refusal_for no_segment (length s)) e (sym (whole_is ∙ rw z))
+    pub listed_none : l.segments.count ≡ 0 → (b : Bulletin) → b ≡ refused_for (refusal_for NoSegment (length s)) → Answers s (listed_of s from h) ks d b
+    listed_none z b e = refused_answers s (listed_of s from h) ks d b (refusal_for NoSegment (length s)) e (sym (whole_is ∙ rw z))
 
     pub listed_some : (l.segments.count ≡ 0 → ⊥) → l.segments ≡ segments_for (segments_held l.segments) → Sized l.segments → d ≡ kept_from s h.issue 0 (segments_held l.segments) ks
         → Answers s (listed_of s from h) ks d (record { reading = reading.Accepted h; segments = l.segments })

@@ -14,7 +14,7 @@ use Rattle.laws.proofs.Tests.{by, apart}
 use Rattle.laws.proofs.Lists.{all_found}
 use Rattle.laws.specs.Lists.{All, all_nil, all_cons}
 use Rattle.refusal.specs.Answer.{Answer, ok, no, refused, and_then}
-use Rattle.refusal.specs.Numbers.{too_many_places}
+use Rattle.refusal.specs.declared.Reason.TheVariants.{TooManyPlaces}
 use Rattle.refusal.specs.declared.Refusal.{Refusal}
 use Rattle.lines.specs.Lines.{Line, lines_of, is_end, opens}
 use Rattle.calendar.specs.Purge.{purge_of}
@@ -126,7 +126,7 @@ dated_few start at ps (Some t) c e =
     let w : ok (record { purge = t; places = ps }) ≡ ok c = rw y at e in
     let p : record { purge = t; places = ps } ≡ c = cc in
     subst (λ (k : Content). length k.places ≤ capacity) p (leb-true (length ps) capacity y))
-    (λ y. let w : refused too_many_places start ≡ ok c = rw y at e in apart cc)
+    (λ y. let w : refused TooManyPlaces start ≡ ok c = rw y at e in apart cc)
 
 in_few : (issue start : ℕ) (w : Option ℕ) (r : Read) (c : Content) → content_in issue start w r ≡ ok c → length c.places ≤ capacity
 in_few issue start None (block ps s at) c e = dated_few start at ps (purge_of issue s) c e

@@ -7,7 +7,7 @@ use mathlib.Core.Bool.{Bool, true, false, cond, ◌&&◌}
 use lib.ListN.{length}
 use lib.Dec.{leb}
 use Rattle.laws.proofs.Tests.{by_order}
-use Rattle.refusal.specs.Numbers.{wrong_length, wrong_heading, wrong_identifier, wrong_time}
+use Rattle.refusal.specs.declared.Reason.TheVariants.{WrongLength, WrongHeading, WrongIdentifier, WrongTime}
 use Rattle.refusal.specs.Answer.{ok, no, refusal_for, and_then, paper_verdict}
 use Rattle.refusal.specs.declared.Verdict.{Verdict}
 use Rattle.refusal.specs.declared.Verdict.TheVariants as verdict
@@ -38,12 +38,12 @@ use Rattle.segments.proofs.Seeking.{body_of}
 
 -- ---- 1, 5, 2
 module _ (s : List ℕ) (year month : ℕ) where
-  pub check_length : (leb 1 (length s) && leb (length s) 16384) ≡ false → (r : Verdict) → r ≡ verdict.Refused (refusal_for wrong_length 0) → paper_verdict r ≡ text_checked s year month
+  pub check_length : (leb 1 (length s) && leb (length s) 16384) ≡ false → (r : Verdict) → r ≡ verdict.Refused (refusal_for WrongLength 0) → paper_verdict r ≡ text_checked s year month
   unfolding text_checked is_length and_then
   check_length n r e = rw (e, n)
 
   module _ (y : (leb 1 (length s) && leb (length s) 16384) ≡ true) (t : Bool) (et : t ≡ is_issue_month year month) where
-    pub check_month : t ≡ false → (r : Verdict) → r ≡ verdict.Refused (refusal_for wrong_time 0) → paper_verdict r ≡ text_checked s year month
+    pub check_month : t ≡ false → (r : Verdict) → r ≡ verdict.Refused (refusal_for WrongTime 0) → paper_verdict r ≡ text_checked s year month
     unfolding text_checked is_length and_then
     check_month n r e = rw (e, y, ← et, n)
 
@@ -66,13 +66,13 @@ module _ (s : List ℕ) (at : ℕ) (f : Lined) (e : paper_lined f ≡ span_at s 
 
 -- ---- 3, 4, 5
 pub top_empty : (s : List ℕ) (year month : ℕ) (f : Lined) → paper_lined f ≡ span_at s 0 → f ≡ lined.Nothing
-    → (r : Topped) → r ≡ topped.Refused (refusal_for wrong_heading 0) → paper_topped s r ≡ top_of s year month
+    → (r : Topped) → r ≡ topped.Refused (refusal_for WrongHeading 0) → paper_topped s r ≡ top_of s year month
 unfolding top_of and_then
 top_empty s year month f e q r p = rw (p, lines_last s 0 (found_none s 0 f e q))
 
 -- line 2, which starts at `second`, and the issue
 module _ (s : List ℕ) (year month second : ℕ) (g : Heading) (fb : Lined) (eb : paper_lined fb ≡ span_at s second) where
-  pub second_short : second ≤ length s → fb ≡ lined.Nothing → (r : Topped) → r ≡ topped.Refused (refusal_for wrong_identifier second)
+  pub second_short : second ≤ length s → fb ≡ lined.Nothing → (r : Topped) → r ≡ topped.Refused (refusal_for WrongIdentifier second)
       → paper_topped s r ≡ second_of s year month (lines_on s second) (paper_heading g)
   unfolding second_of and_then
   second_short h z r e =
@@ -84,13 +84,13 @@ module _ (s : List ℕ) (year month second : ℕ) (g : Heading) (fb : Lined) (eb
     second_line : line2 (length s) (lines_on s second) ≡ cond t (ok second) (no 4 second)
     second_line = line2_is s second fb eb b qb name en ∙ rw (← et)
 
-    pub second_identifier : t ≡ false → (r : Topped) → r ≡ topped.Refused (refusal_for wrong_identifier second)
+    pub second_identifier : t ≡ false → (r : Topped) → r ≡ topped.Refused (refusal_for WrongIdentifier second)
         → paper_topped s r ≡ second_of s year month (lines_on s second) (paper_heading g)
     unfolding second_of and_then
     second_identifier n r e = rw (e, second_line, n)
 
     module _ (y : t ≡ true) (m : Moment) (em : paper_moment m ≡ minute_of (record { year = year; month = month; stamp = g.stamp })) where
-      pub second_issue : m ≡ moment.Nothing → (r : Topped) → r ≡ topped.Refused (refusal_for wrong_time 0)
+      pub second_issue : m ≡ moment.Nothing → (r : Topped) → r ≡ topped.Refused (refusal_for WrongTime 0)
           → paper_topped s r ≡ second_of s year month (lines_on s second) (paper_heading g)
       unfolding second_of and_then
       second_issue n r e = rw (e, second_line, y, ← em, n)
@@ -108,7 +108,7 @@ module _ (s : List ℕ) (year month : ℕ) (fa : Lined) (ea : paper_lined fa ≡
   heading_is : line1 (lines_of s) ≡ rule.headed (paper_headed h)
   heading_is = line1_is s 0 fa ea a qa line el ∙ rw eh
 
-  pub top_heading : h ≡ headed.Wrong → (r : Topped) → r ≡ topped.Refused (refusal_for wrong_heading 0) → paper_topped s r ≡ top_of s year month
+  pub top_heading : h ≡ headed.Wrong → (r : Topped) → r ≡ topped.Refused (refusal_for WrongHeading 0) → paper_topped s r ≡ top_of s year month
   unfolding top_of and_then
   top_heading q r e =
       let w : line1 (lines_of s) ≡ no 3 0 = heading_is ∙ ap (λ (x : Headed). rule.headed (paper_headed x)) q in

@@ -6,7 +6,7 @@ use mathlib.Core.List.{List, [], ◌∷◌}
 use lib.ListN.{length, get_or}
 use lib.Seq.{get_or-take, length-take-le}
 use Rattle.laws.proofs.Tests.{impossible}
-use Rattle.refusal.specs.Numbers.{no_such_segment}
+use Rattle.refusal.specs.declared.Reason.TheVariants.{NoSuchSegment}
 use Rattle.refusal.specs.Answer.{Answer, ok, no, refusal_for, and_then, paper_verdict}
 use Rattle.refusal.specs.declared.Refusal.{Refusal}
 use Rattle.refusal.specs.declared.Verdict.TheVariants as verdict
@@ -61,12 +61,12 @@ module _ (s : List ℕ) (year month n : ℕ) (b : Bulletin) (reads : Reads s yea
         sym (view_is ∙ ap (λ (k : ℕ). numbered k (segments_held b.segments)) e ∙ numbered_at d (n - 1) (segments_held b.segments) (omega (arith, long))
         ∙ ap ok (get_or-take b.segments.count b.segments.held (n - 1) d (omega arith)))
 
-    pub view_low : n < 1 → (v : Viewed) → v ≡ viewed.Refused (refusal_for no_such_segment 0) → paper_viewed v ≡ view_of s year month n
+    pub view_low : n < 1 → (v : Viewed) → v ≡ viewed.Refused (refusal_for NoSuchSegment 0) → paper_viewed v ≡ view_of s year month n
     view_low k v w =
         let e : n ≡ 0 = omega arith in
         rw w (sym (view_is ∙ ap (λ (m : ℕ). numbered m (segments_held b.segments)) e ∙ numbered_zero (segments_held b.segments)))
 
-    pub view_far : b.segments.count < n → (v : Viewed) → v ≡ viewed.Refused (refusal_for no_such_segment 0) → paper_viewed v ≡ view_of s year month n
+    pub view_far : b.segments.count < n → (v : Viewed) → v ≡ viewed.Refused (refusal_for NoSuchSegment 0) → paper_viewed v ≡ view_of s year month n
     view_far k v w =
         let e : n ≡ suc (n - 1) = omega arith in
         rw w (sym (view_is ∙ ap (λ (m : ℕ). numbered m (segments_held b.segments)) e ∙ numbered_past (n - 1) (segments_held b.segments) (omega (arith, long))))

@@ -1,7 +1,7 @@
 -- Serves the code: the rest of the order of reading, from the storm on and from the segments on, and what a function that reads on from there promises.
 use Rattle.std.specs.Prelude.{ℕ, ◌≡◌, List, [], ◌∷◌, length}
 use Rattle.std.specs.Prelude.{Option}
-use Rattle.refusal.specs.Numbers.{no_segment}
+use Rattle.refusal.specs.declared.Reason.TheVariants.{NoSegment}
 use Rattle.refusal.specs.Answer.{Answer, ok, refused, and_then}
 use Rattle.refusal.specs.declared.Refusal.{Refusal}
 use Rattle.lines.specs.Lines.{blank}
@@ -24,7 +24,7 @@ use Rattle.bulletin.specs.declared.Reading.TheVariants as reading
 use Rattle.bulletin.specs.declared.Bulletin.{Bulletin}
 
 abbrev pub some_seen : ℕ → (List Segment → Report) → List Segment → Answer Report
-some_seen stop report [] = refused no_segment stop
+some_seen stop report [] = refused NoSegment stop
 some_seen stop report (g ∷ gs) = ok (report (g ∷ gs))
 
 unfoldable pub listed_of : List ℕ → ℕ → Head → Answer Report

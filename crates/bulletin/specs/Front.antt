@@ -1,6 +1,6 @@
 -- Serves the code: what its answers mean, up to the first segment, and the order of reading up to there.
 use Rattle.std.specs.Prelude.{ℕ, length, List}
-use Rattle.refusal.specs.Numbers.{wrong_length, wrong_time}
+use Rattle.refusal.specs.declared.Reason.TheVariants.{WrongLength, WrongTime}
 use Rattle.lines.specs.Check.{check_text}
 use Rattle.calendar.specs.Calendar.{is_issue_month, minute_of}
 use Rattle.heading.specs.Heading.{Heading}
@@ -30,8 +30,8 @@ paper_start text (start.Refused r) = paper_refusal r
 -- 1, 5 (year, month), 2
 unfoldable pub text_checked : List ℕ → ℕ → ℕ → Answer Unit
 text_checked text year month =
-    and_then (must (is_length text) wrong_length 0) λ _.
-    and_then (must (is_issue_month year month) wrong_time 0) λ _.
+    and_then (must (is_length text) WrongLength 0) λ _.
+    and_then (must (is_issue_month year month) WrongTime 0) λ _.
     check_text text
 
 -- 3, 4, 5 (issue): and the lines below line 2

@@ -1,6 +1,6 @@
 -- Document 01: "The core hands back the segment as a part of the caller's own text, line ends with it, by number from 1."
 use Rattle.std.specs.Prelude.{ℕ, zero, suc, List, [], ◌∷◌}
-use Rattle.refusal.specs.Numbers.{no_such_segment}
+use Rattle.refusal.specs.declared.Reason.TheVariants.{NoSuchSegment}
 use Rattle.refusal.specs.Answer.{Answer, ok, no, refused, and_then, paper_refusal}
 use Rattle.lines.specs.Spans.{part}
 use Rattle.bulletin.specs.Bulletin.{read_bulletin}
@@ -11,8 +11,8 @@ use Rattle.bulletin.specs.declared.Viewed.TheVariants as viewed
 
 -- "A view's 15 comes last."
 unfoldable pub numbered : ℕ → List Segment → Answer Segment
-numbered n [] = refused no_such_segment 0
-numbered zero (g ∷ gs) = refused no_such_segment 0
+numbered n [] = refused NoSuchSegment 0
+numbered zero (g ∷ gs) = refused NoSuchSegment 0
 numbered (suc zero) (g ∷ gs) = ok g
 numbered (suc (suc n)) (g ∷ gs) = numbered (suc n) gs
 

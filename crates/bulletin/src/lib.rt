@@ -16,7 +16,7 @@ ghost use Rattle.heading.specs.Paper.{paper_heading};
 ghost use Rattle.bulletin.specs.Below.{listed_of, below_of, refused_for, Answers};
 ghost use Rattle.heading.specs.Storm.{is_office};
 ghost use Rattle.refusal.specs.Answer.{paper_verdict, refusal_for};
-ghost use Rattle.refusal.specs.Numbers.{no_such_segment};
+ghost use Rattle.refusal.specs.declared.Reason.TheVariants.{NoSuchSegment};
 
 use calendar::{Date, Moment};
 use heading::{Headed, Heading, Named, Storm};
@@ -283,8 +283,8 @@ pub enum Viewed {
     Refused(Refusal),
 }
 
-fn no_such_segment() -> Viewed
-    ensures { result ≡ Viewed.Refused (refusal_for no_such_segment 0) }
+fn NoSuchSegment() -> Viewed
+    ensures { result ≡ Viewed.Refused (refusal_for NoSuchSegment 0) }
 {
     let number = refusal::NO_SUCH_SEGMENT;
     Viewed::Refused(Refusal { number, place: 0 })
@@ -301,10 +301,10 @@ pub fn find_segment(text: &[u8], year: usize, month: usize, n: usize) -> Viewed
         Reading::Refused(r) => Viewed::Refused(r),
         Reading::Accepted(_) => {
             if n < 1 {
-                return no_such_segment();
+                return NoSuchSegment();
             }
             if segments.count < n {
-                return no_such_segment();
+                return NoSuchSegment();
             }
             let held = segments.held;
             let i = n - 1;

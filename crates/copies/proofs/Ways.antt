@@ -6,7 +6,7 @@ use mathlib.Core.List.{List}
 use mathlib.Core.Bool.{Bool, true}
 use lib.ListN.{length, get_or, take}
 use lib.Seq.{length-take-le}
-use Rattle.refusal.specs.Numbers.{not_taken}
+use Rattle.refusal.specs.declared.Reason.TheVariants.{NotTaken}
 use Rattle.refusal.specs.Answer.{refusal_for, paper_verdict}
 use Rattle.refusal.specs.declared.Refusal.{Refusal}
 use Rattle.refusal.specs.declared.Verdict.{Verdict}
@@ -63,7 +63,7 @@ module _ (l : List ℕ) (y : Bytes l) (d s : ℕ) (v : Verdict) where
         load_few = (working k q).few
 
       -- there is none
-      module _ (e : Edit) (r : in_range (editing e) ≡ true) (none : f ≡ found.NotTaken) (a : Reply) (answers : a ≡ reply.Refused (refusal_for not_taken 0)) where
+      module _ (e : Edit) (r : in_range (editing e) ≡ true) (none : f ≡ found.NotTaken) (a : Reply) (answers : a ≡ reply.Refused (refusal_for NotTaken 0)) where
         pub absent_does : Does l l (on d s (editing e)) a
         absent_does =
             let same = absent_at l d s e (base_of l y in_book_lem.sound) in_book_lem r (sym is_at ∙ ap paper_copy none) in

@@ -7,7 +7,7 @@ use mathlib.Core.Bool.{Bool, true}
 use lib.ListN.{get_or, take}
 use lib.Seq.{get_or-take}
 use Rattle.laws.proofs.Lookups.{get_some, get_none}
-use Rattle.refusal.specs.Numbers.{not_taken, out_of_range}
+use Rattle.refusal.specs.declared.Reason.TheVariants.{NotTaken, OutOfRange}
 use Rattle.refusal.specs.Answer.{Answer, ok, refusal_for, paper_verdict}
 use Rattle.refusal.specs.declared.Refusal.{Refusal}
 use Rattle.refusal.specs.declared.Verdict.{Verdict}
@@ -35,7 +35,7 @@ module _ (l : List ℕ) (y : Bytes l) (d s : ℕ) (v : Verdict) (e : Edit) where
   refused_read r is says = (refused_does l y d s v (editing e) r is says).answer
 
   pub absent_read : (t : Bool) → v ≡ Accepted → paper_verdict v ≡ admission l d t s → (f : Found) → paper_copy f ≡ copy_block l d s → in_range (editing e) ≡ true
-      → f ≡ found.NotTaken → (a : Reply) → a ≡ reply.Refused (refusal_for not_taken 0) → paper_reply a ≡ (on_bytes l (on d s (editing e))).0
+      → f ≡ found.NotTaken → (a : Reply) → a ≡ reply.Refused (refusal_for NotTaken 0) → paper_reply a ≡ (on_bytes l (on d s (editing e))).0
   absent_read t is says f is_at r none a answers = (absent_does l y d s v t is says f is_at e r none a answers).answer
 
 -- ---- by the content that was loaded
@@ -52,7 +52,7 @@ module _ (l : List ℕ) (d s k : ℕ) (w : Works l d s k) (h : Held) (f : Fits h
   indexed : Answer (Value × Content) → BookAnswer
   indexed r = (settle (held_content h) r).0
 
-  pub reads_past : (i : ℕ) → h.count ≤ i → (a : Reply) → a ≡ reply.Refused (refusal_for out_of_range 0)
+  pub reads_past : (i : ℕ) → h.count ≤ i → (a : Reply) → a ≡ reply.Refused (refusal_for OutOfRange 0)
       → paper_reply a ≡ (on_bytes l (on d s (editing (read_place i)))).0
   unfolding indexed
   reads_past i g a e =

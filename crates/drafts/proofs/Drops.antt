@@ -6,7 +6,7 @@ use mathlib.Core.Bool.{Bool, true, false, not}
 use lib.ListN.{length}
 use borrow.Author.Tests.{not-true, not-false}
 use Rattle.laws.proofs.Tests.{by_order, apart}
-use Rattle.refusal.specs.Numbers.{no_draft}
+use Rattle.refusal.specs.declared.Reason.TheVariants.{NoDraft}
 use Rattle.refusal.specs.Answer.{refusal_for}
 use Rattle.blocks.specs.Block.{book_length, Bytes}
 use Rattle.steps.specs.Book.{Draft, closed, working, Book, put, draft_at}
@@ -45,7 +45,7 @@ module _ (l : List ℕ) (d : ℕ) (opened : Bool) (opened_is : opened ≡ is_ope
     t = sym is-sound ∙ not-false sound good
 
     -- 13
-    pub drop_shut : (r : Reply) → not opened ≡ true → r ≡ reply.Refused (refusal_for no_draft 0) → Does l l (drop d) r
+    pub drop_shut : (r : Reply) → not opened ≡ true → r ≡ reply.Refused (refusal_for NoDraft 0) → Does l l (drop d) r
     drop_shut r h q =
         let shut : draft_at (book_of l).drafts d ≡ closed = closed_of (draft_at (book_of l).drafts d) (sym opened_is ∙ not-true opened h) in
         does_refused l (drop d) r long t 13 0 (drop_closed (book_of l) d shut) (ap paper_reply q)

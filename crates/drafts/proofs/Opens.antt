@@ -10,7 +10,7 @@ use lib.ListN.{length, get_or}
 use Rattle.std.specs.Prelude.{slice_get}
 use borrow.Author.Tests.{ne_eqb, not-true, not-false}
 use Rattle.laws.proofs.Tests.{apart}
-use Rattle.refusal.specs.Numbers.{wrong_length, not_sound, all_open}
+use Rattle.refusal.specs.declared.Reason.TheVariants.{WrongLength, NotSound, AllOpen}
 use Rattle.refusal.specs.Answer.{refusal_for}
 use Rattle.codes.specs.Places.{upward}
 use Rattle.blocks.specs.Block.{book_length, Bytes}
@@ -31,13 +31,13 @@ use Rattle.drafts.specs.declared.Lowest.{Lowest}
 use Rattle.drafts.specs.declared.Lowest.TheVariants as code
 
 -- ---- a call on bytes of a wrong length, and on bytes that are no sound book
-pub ends_short : (l : List ℕ) (c : Call) (r : Reply) → (length l ≡ book_length → ⊥) → r ≡ reply.Refused (refusal_for wrong_length 0) → Does l l c r
-ends_short l c r h e = subst (Does l l c) (sym e) (does_short l c (reply.Refused (refusal_for wrong_length 0)) h refl)
+pub ends_short : (l : List ℕ) (c : Call) (r : Reply) → (length l ≡ book_length → ⊥) → r ≡ reply.Refused (refusal_for WrongLength 0) → Does l l c r
+ends_short l c r h e = subst (Does l l c) (sym e) (does_short l c (reply.Refused (refusal_for WrongLength 0)) h refl)
 
 pub ends_unsound : (l : List ℕ) (c : Call) (r : Reply) (sound : Bool) → length l ≡ book_length → sound ≡ is_sound l → not sound ≡ true
-    → r ≡ reply.Refused (refusal_for not_sound 0) → Does l l c r
+    → r ≡ reply.Refused (refusal_for NotSound 0) → Does l l c r
 ends_unsound l c r sound h q t e =
-    subst (Does l l c) (sym e) (does_unsound l c (reply.Refused (refusal_for not_sound 0)) h (sym q ∙ not-true sound t) refl)
+    subst (Does l l c) (sym e) (does_unsound l c (reply.Refused (refusal_for NotSound 0)) h (sym q ∙ not-true sound t) refl)
 
 -- ---- the four drafts in their order
 four_drafts : (l : List ℕ) → (book_of l).drafts ≡ draft_of l 0 ∷ draft_of l 1 ∷ draft_of l 2 ∷ draft_of l 3 ∷ []
@@ -104,7 +104,7 @@ module _ (l : List ℕ) (long : length l ≡ book_length) (sound : Bool) (is-sou
   t = sym is-sound ∙ not-false sound good
 
   -- 14
-  pub open_none : (y : Bytes l) (r : Reply) → w ≡ code.Nothing → r ≡ reply.Refused (refusal_for all_open 0) → Does l l opening r
+  pub open_none : (y : Bytes l) (r : Reply) → w ≡ code.Nothing → r ≡ reply.Refused (refusal_for AllOpen 0) → Does l l opening r
   open_none y r e q =
       let none-closed : lowest 1 (book_of l).drafts ≡ None = sym is-lowest ∙ ap paper_lowest e in
       does_refused l opening r long t 14 0 (order.open_none (book_of l) none-closed) (ap paper_reply q)

@@ -8,7 +8,7 @@ use Rattle.std.specs.Prelude.{Option, None, Some}
 use lib.ListN.{length, get_or}
 use borrow.Author.Tests.{le-ltb, lt-ltb}
 use Rattle.laws.proofs.Tests.{by_order, impossible, apart}
-use Rattle.refusal.specs.Numbers.{taken_already, two_taken}
+use Rattle.refusal.specs.declared.Reason.TheVariants.{TakenAlready, TwoTaken}
 use Rattle.refusal.specs.Answer.{no, refusal_for, paper_verdict}
 use Rattle.refusal.specs.declared.Verdict.{Verdict}
 use Rattle.refusal.specs.declared.Verdict.TheVariants.{Accepted}
@@ -106,12 +106,12 @@ module _ (l : List ℕ) (base : Base l) (long : length l ≡ book_length) (d s :
   stays : (n p : ℕ) (r : Reply) → book_rule (book_of l) (on d s taking) ≡ no n p → paper_reply r ≡ no n p → Does l l (on d s taking) r
   stays n p r e q = does_refused l (on d s taking) r long base.sound n p e q
 
-  copy_there : has s o.ks ≡ true → Does l l (on d s taking) (reply.Refused (refusal_for taken_already 0))
-  copy_there e = stays 17 0 (reply.Refused (refusal_for taken_already 0)) (on_again (book_of l) d o.ks o.stale o.there s c there e) refl
+  copy_there : has s o.ks ≡ true → Does l l (on d s taking) (reply.Refused (refusal_for TakenAlready 0))
+  copy_there e = stays 17 0 (reply.Refused (refusal_for TakenAlready 0)) (on_again (book_of l) d o.ks o.stale o.there s c there e) refl
 
-  two_there : has s o.ks ≡ false → 2 ≤ length o.ks → Does l l (on d s taking) (reply.Refused (refusal_for two_taken 0))
+  two_there : has s o.ks ≡ false → 2 ≤ length o.ks → Does l l (on d s taking) (reply.Refused (refusal_for TwoTaken 0))
   two_there e h =
-      stays 18 0 (reply.Refused (refusal_for two_taken 0)) (on_full (book_of l) d o.ks o.stale o.there s c there e (le-ltb (length o.ks) 2 h)) refl
+      stays 18 0 (reply.Refused (refusal_for TwoTaken 0)) (on_full (book_of l) d o.ks o.stale o.there s c there e (le-ltb (length o.ks) 2 h)) refl
 
   copied : has s o.ks ≡ false → length o.ks < 2 → (z : List ℕ)
       → z ≡ bytes_of (with_drafts (book_of l) (put (book_of l).drafts d (working (o.ks ++ (record { segment = s; held = c } ∷ [])) o.stale)))
@@ -150,7 +150,7 @@ module _ (l : List ℕ) (y : Bytes l) (d s : ℕ) (v : Verdict) (is : v ≡ Acce
   sought = is_at ∙ ap (λ (x : Draft). block_in d (index_of s (copies_of x))) o.there
 
   -- 17
-  pub take_again : (k : ℕ) (r : Reply) → f ≡ found.Copy k → r ≡ reply.Refused (refusal_for taken_already 0) → Does l l (on d s taking) r
+  pub take_again : (k : ℕ) (r : Reply) → f ≡ found.Copy k → r ≡ reply.Refused (refusal_for TakenAlready 0) → Does l l (on d s taking) r
   take_again k r q e =
       let b = block_some d k (index_of s o.ks) (sym sought ∙ ap paper_copy q) in
       let i = index_some s o.ks b.0 b.1 in
@@ -164,7 +164,7 @@ module _ (l : List ℕ) (y : Bytes l) (d s : ℕ) (v : Verdict) (is : v ≡ Acce
     count = is-n ∙ ap (λ (x : Draft). length (copies_of x)) o.there
 
     -- 18
-    pub take_full : (r : Reply) → 2 ≤ n → r ≡ reply.Refused (refusal_for two_taken 0) → Does l l (on d s taking) r
+    pub take_full : (r : Reply) → 2 ≤ n → r ≡ reply.Refused (refusal_for TwoTaken 0) → Does l l (on d s taking) r
     take_full r h e =
         subst (Does l l (on d s taking)) (sym e) (two_there l base a.long d s o c.0 c.1 absent (omega (arith, count)))
 

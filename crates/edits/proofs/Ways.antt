@@ -10,7 +10,7 @@ use lib.ListN.{length, take, drop}
 use lib.Seq.{length-take-le}
 use lib.Dec.{eqb, ltb}
 use borrow.Author.Tests.{ltb-true, le-ltb, lt-ltb, eq-eqb, ne_eqb, not-true, not-false}
-use Rattle.refusal.specs.Numbers.{not_taken, wrong_time, segment_full, only_place}
+use Rattle.refusal.specs.declared.Reason.TheVariants.{NotTaken, WrongTime, SegmentFull, OnlyPlace}
 use Rattle.refusal.specs.Answer.{ok, refusal_for, paper_verdict}
 use Rattle.refusal.specs.declared.Refusal.{Refusal}
 use Rattle.refusal.specs.declared.Verdict.{Verdict}
@@ -58,7 +58,7 @@ module _ (l : List ℕ) (y : Bytes l) (d s : ℕ) (v : Verdict) (t : Bool) (says
     pub in_range_lem : in_range (editing e) ≡ true
     in_range_lem = sym tests ∙ ranging l d s v t is says
 
-    pub tested_absent : (f : Found) → paper_copy f ≡ copy_block l d s → f ≡ found.NotTaken → (a : Reply) → a ≡ reply.Refused (refusal_for not_taken 0)
+    pub tested_absent : (f : Found) → paper_copy f ≡ copy_block l d s → f ≡ found.NotTaken → (a : Reply) → a ≡ reply.Refused (refusal_for NotTaken 0)
         → Does l l (on d s (editing e)) a
     tested_absent f is_at q a answers = absent_does l y d s v t is says f is_at e in_range_lem q a answers
 
@@ -105,7 +105,7 @@ module _ (l : List ℕ) (d s k : ℕ) (w : Works l d s k) (h : Held) (f : Fits h
     given = sym (gives ∙ ap (λ (i : ℕ). purge_of i time) is-issue)
 
     -- 5
-    pub purge_none : m ≡ moment.Nothing → (a : Reply) → a ≡ reply.Refused (refusal_for wrong_time 0) → Does l l (on d s (editing (set_purge time))) a
+    pub purge_none : m ≡ moment.Nothing → (a : Reply) → a ≡ reply.Refused (refusal_for WrongTime 0) → Does l l (on d s (editing (set_purge time))) a
     purge_none nothing a e =
         kept_does (set_purge time) in_time a
         (ap (settle held) (order.purge_none issue held time (given ∙ ap paper_moment nothing)) ∙ ap (λ (r : Reply). (paper_reply r, held)) (sym e))
@@ -135,7 +135,7 @@ module _ (l : List ℕ) (d s k : ℕ) (w : Works l d s k) (h : Held) (f : Fits h
       room_is b e = ap (λ (n : ℕ). ltb n capacity) (count_is h f) ∙ e
 
       -- 19
-      pub add_full : capacity ≤ h.count → (a : Reply) → a ≡ reply.Refused (refusal_for segment_full 0) → Does l l (on d s (editing (add p))) a
+      pub add_full : capacity ≤ h.count → (a : Reply) → a ≡ reply.Refused (refusal_for SegmentFull 0) → Does l l (on d s (editing (add p))) a
       add_full full a e =
           kept_does (add p) range a
           (ap (settle held) (order.add_full issue held p (there ∙ u) (room_is false (le-ltb h.count capacity full))) ∙ ap (λ (r : Reply). (paper_reply r, held)) (sym e))
@@ -156,7 +156,7 @@ module _ (l : List ℕ) (d s k : ℕ) (w : Works l d s k) (h : Held) (f : Fits h
       one_is b e = ap (λ (n : ℕ). eqb n 1) (count_is h f) ∙ e
 
       -- 20
-      pub remove_only : h.count ≡ 1 → (a : Reply) → a ≡ reply.Refused (refusal_for only_place 0) → Does l l (on d s (editing (remove p))) a
+      pub remove_only : h.count ≡ 1 → (a : Reply) → a ≡ reply.Refused (refusal_for OnlyPlace 0) → Does l l (on d s (editing (remove p))) a
       remove_only only a e =
           kept_does (remove p) range a
           (ap (settle held) (order.remove_only issue held p (there ∙ not-false t u) (one_is true (eq-eqb h.count 1 only))) ∙ ap (λ (r : Reply). (paper_reply r, held)) (sym e))

@@ -16,7 +16,7 @@ use borrow.Rule.Slice.PartMut.{put_mid}
 use Rattle.laws.proofs.Lookups.{get_some, some_same}
 use Rattle.laws.proofs.Stores.{sets_front, sets_then}
 use Rattle.laws.proofs.Tests.{by, apart}
-use Rattle.refusal.specs.Numbers.{out_of_range}
+use Rattle.refusal.specs.declared.Reason.TheVariants.{OutOfRange}
 use Rattle.refusal.specs.Answer.{Answer, ok, refused, and_then, paper_refusal}
 use Rattle.refusal.specs.declared.Refusal.{Refusal}
 use Rattle.lines.specs.declared.End.{End}
@@ -55,7 +55,7 @@ pub record SomeBlock (end : End) (ps : List ℕ) (minute : ℕ) : Type 0 where
 pub some_block : (e f : End) (ps : List ℕ) (minute : ℕ) (block : List ℕ) → written_block e ps minute ≡ ok block → SomeBlock f ps minute
 unfolding written_block
 some_block e f ps minute block h =
-    by (is_set ps) (λ q. dated q (date_of minute) refl (rw q at h)) (λ q. let z : refused out_of_range 0 ≡ ok block = rw q at h in apart cc)
+    by (is_set ps) (λ q. dated q (date_of minute) refl (rw q at h)) (λ q. let z : refused OutOfRange 0 ≡ ok block = rw q at h in apart cc)
   where
     dated : is_set ps ≡ true → (d : Option Date) → date_of minute ≡ d → dated_block e ps d ≡ ok block → SomeBlock f ps minute
     dated q None t z = apart cc

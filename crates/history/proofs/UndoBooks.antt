@@ -5,7 +5,7 @@ use mathlib.Core.List.{List}
 use Prim.Native.Nat.{ℕ, ◌+◌, ◌-◌, ◌≤◌}
 use native.Mathlib.Omega.{arith}
 use lib.ListN.{length, get_or}
-use Rattle.refusal.specs.Numbers.{no_step}
+use Rattle.refusal.specs.declared.Reason.TheVariants.{NoStep}
 use Rattle.refusal.specs.Answer.{ok, refused}
 use Rattle.blocks.specs.Block.{book_length, Bytes}
 use Rattle.steps.specs.Book.{Copy, Book}
@@ -73,7 +73,7 @@ undo_does l r s m c long back =
     (ap (λ (ns : List ℕ). ok (changed ns)) back.says) back.left
 
 -- ---- no step
-pub undo_none : (l : List ℕ) (a : Reply) → Bytes l → length l ≡ book_length → is_sound l ≡ true → get_or l 24 0 ≡ 0 → paper_reply a ≡ refused no_step 0 → Does l l undo a
+pub undo_none : (l : List ℕ) (a : Reply) → Bytes l → length l ≡ book_length → is_sound l ≡ true → get_or l 24 0 ≡ 0 → paper_reply a ≡ refused NoStep 0 → Does l l undo a
 unfolding newest
 undo_none l a y long sound e p =
     does_refused l undo a long sound 22 0

@@ -6,7 +6,7 @@ use Prim.Native.Nat.{ℕ}
 use mathlib.Core.Logic.{◌≢◌}
 use lib.ListN.{length}
 use borrow.Author.Tests.{eq-eqb, ne_eqb}
-use Rattle.refusal.specs.Numbers.{wrong_length, not_sound}
+use Rattle.refusal.specs.declared.Reason.TheVariants.{WrongLength, NotSound}
 use Rattle.refusal.specs.Answer.{Answer, ok, no, refused, and_then}
 use Rattle.blocks.specs.Block.{book_length}
 use Rattle.steps.specs.Book.{Book}
@@ -24,11 +24,11 @@ in_book r = ok (r.0, bytes_of r.1)
 unfoldable pub in_bytes : Answer (Value × Book) → Answer (Value × List ℕ)
 in_bytes r = and_then r in_book
 
-pub rule_short : (l : List ℕ) (c : Call) → length l ≢ book_length → bytes_rule l c ≡ refused wrong_length 0
+pub rule_short : (l : List ℕ) (c : Call) → length l ≢ book_length → bytes_rule l c ≡ refused WrongLength 0
 unfolding bytes_rule and_then
 rule_short l c h = rw (ne_eqb (length l) book_length h)
 
-pub rule_unsound : (l : List ℕ) (c : Call) → length l ≡ book_length → is_sound l ≡ false → bytes_rule l c ≡ refused not_sound 0
+pub rule_unsound : (l : List ℕ) (c : Call) → length l ≡ book_length → is_sound l ≡ false → bytes_rule l c ≡ refused NotSound 0
 unfolding bytes_rule and_then
 rule_unsound l c h e = rw (eq-eqb (length l) book_length h, e)
 
@@ -75,8 +75,8 @@ module _ (l : List ℕ) (c : Call) (r : Reply) where
   pub does_refused : length l ≡ book_length → is_sound l ≡ true → (n p : ℕ) → book_rule (book_of l) c ≡ no n p → paper_reply r ≡ no n p → Does l l c r
   does_refused h e n p q a = does_is l l c r (no n p) (book_refused l c h e n p q) a
 
-  pub does_short : length l ≢ book_length → paper_reply r ≡ refused wrong_length 0 → Does l l c r
-  does_short h p = does_is l l c r (refused wrong_length 0) (bytes_refused l c 1 0 (rule_short l c h)) p
+  pub does_short : length l ≢ book_length → paper_reply r ≡ refused WrongLength 0 → Does l l c r
+  does_short h p = does_is l l c r (refused WrongLength 0) (bytes_refused l c 1 0 (rule_short l c h)) p
 
-  pub does_unsound : length l ≡ book_length → is_sound l ≡ false → paper_reply r ≡ refused not_sound 0 → Does l l c r
-  does_unsound h e p = does_is l l c r (refused not_sound 0) (bytes_refused l c 12 0 (rule_unsound l c h e)) p
+  pub does_unsound : length l ≡ book_length → is_sound l ≡ false → paper_reply r ≡ refused NotSound 0 → Does l l c r
+  does_unsound h e p = does_is l l c r (refused NotSound 0) (bytes_refused l c 12 0 (rule_unsound l c h e)) p

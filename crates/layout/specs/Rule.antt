@@ -1,6 +1,6 @@
 -- The rule of every call on a book's bytes: 1, 12, then what the steps of document 01 say of the book that the bytes hold.
 use Rattle.std.specs.Prelude.{ℕ, ◌≡◌, List, [], ◌∷◌, length, eqb}
-use Rattle.refusal.specs.Numbers.{wrong_length, not_sound}
+use Rattle.refusal.specs.declared.Reason.TheVariants.{WrongLength, NotSound}
 use Rattle.refusal.specs.Answer.{Answer, ok, must, and_then, paper_refusal}
 use Rattle.blocks.specs.Block.{book_length}
 use Rattle.steps.specs.Calls.{Call, Value, BookAnswer, draft, done, number, was, changed, settle, book_rule}
@@ -14,8 +14,8 @@ use Rattle.layout.specs.declared.Reply.TheVariants as reply
 -- "Book calls: 1, 12, .." and then the refusals of the book that the bytes hold; what is left are the bytes of the book that the call leaves
 unfoldable pub bytes_rule : List ℕ → Call → Answer (Value × List ℕ)
 bytes_rule l c =
-    and_then (must (eqb (length l) book_length) wrong_length 0) λ _.
-    and_then (must (is_sound l) not_sound 0) λ _.
+    and_then (must (eqb (length l) book_length) WrongLength 0) λ _.
+    and_then (must (is_sound l) NotSound 0) λ _.
     and_then (book_rule (book_of l) c) λ r.
     ok (r.0, bytes_of r.1)
 

@@ -11,7 +11,7 @@ use lib.Seq.{length-take-le}
 use borrow.Author.Tests.{ne_eqb}
 use Rattle.laws.proofs.Lists.{all_each}
 use Rattle.laws.specs.Lists.{All}
-use Rattle.refusal.specs.Numbers.{wrong_length}
+use Rattle.refusal.specs.declared.Reason.TheVariants.{WrongLength}
 use Rattle.refusal.specs.Answer.{Answer, ok, no, refused, refusal_for, and_then, paper_verdict}
 use Rattle.refusal.specs.declared.Refusal.{Refusal}
 use Rattle.refusal.specs.declared.Verdict.{Verdict}
@@ -68,7 +68,7 @@ ruled : (l d text : List ℕ) (year month : ℕ) (r : Verdict) (a : Answer Book)
 ruled l d text year month r a e f g = record { answer = f ∙ ap made_answer (sym e); left = g ∙ ap (λ (x : Answer Book). made_bytes x l) (sym e) }
 
 -- ---- the rule, at each way out
-rule_short : (l text : List ℕ) (year month : ℕ) → (length l ≡ book_length → ⊥) → make_rule l text year month ≡ refused wrong_length 0
+rule_short : (l text : List ℕ) (year month : ℕ) → (length l ≡ book_length → ⊥) → make_rule l text year month ≡ refused WrongLength 0
 unfolding make_rule and_then
 rule_short l text year month h = rw (ne_eqb (length l) book_length h)
 
@@ -79,8 +79,8 @@ rule_long l text year month h a e = rw (h, e)
 
 -- ---- the ways out
 module _ (l text : List ℕ) (year month : ℕ) where
-  pub make_short : (length l ≡ book_length → ⊥) → (r : Verdict) → r ≡ verdict.Refused (refusal_for wrong_length 0) → Makes l l text year month r
-  make_short h r e = ruled l l text year month r (refused wrong_length 0) (rule_short l text year month h) (ap paper_verdict e) refl
+  pub make_short : (length l ≡ book_length → ⊥) → (r : Verdict) → r ≡ verdict.Refused (refusal_for WrongLength 0) → Makes l l text year month r
+  make_short h r e = ruled l l text year month r (refused WrongLength 0) (rule_short l text year month h) (ap paper_verdict e) refl
 
   module _ (b : Bulletin) (ks₀ ks : List ℕ) (kept : KeepsPlaces ks₀ ks text year month b) where
     reads : Reads text year month b

@@ -8,7 +8,7 @@ use Rattle.std.specs.Prelude.{Option, None, Some}
 use lib.ListN.{length, take, get_or}
 use borrow.Author.Tests.{ne_eqb, le-leb}
 use Rattle.laws.proofs.Tests.{apart}
-use Rattle.refusal.specs.Numbers.{wrong_length, not_sound, no_such_segment}
+use Rattle.refusal.specs.declared.Reason.TheVariants.{WrongLength, NotSound, NoSuchSegment}
 use Rattle.refusal.specs.Answer.{Answer, ok, no, refused, refusal_for, and_then}
 use Rattle.lines.specs.declared.End.{End}
 use Rattle.lines.specs.declared.End.TheVariants.{CrCrLf}
@@ -101,11 +101,11 @@ unfolding write_rule and_then
 rule_block end room c block e = rw e
 
 -- ---- the rule, at each way out
-rule_short : (l : List ℕ) (s room : ℕ) → (length l ≡ book_length → ⊥) → write_on l s room ≡ refused wrong_length 0
+rule_short : (l : List ℕ) (s room : ℕ) → (length l ≡ book_length → ⊥) → write_on l s room ≡ refused WrongLength 0
 unfolding write_on and_then
 rule_short l s room h = rw (ne_eqb (length l) book_length h)
 
-rule_broken : (l : List ℕ) (s room : ℕ) → length l ≡ book_length → is_sound l ≡ false → write_on l s room ≡ refused not_sound 0
+rule_broken : (l : List ℕ) (s room : ℕ) → length l ≡ book_length → is_sound l ≡ false → write_on l s room ≡ refused NotSound 0
 unfolding write_on and_then
 rule_broken l s room h e = rw (h, e)
 
@@ -116,24 +116,24 @@ rule_sound l s room h e o f = rw (h, e, f)
 
 -- ---- the ways out
 module _ (l before : List ℕ) (s : ℕ) where
-  pub write_short : (length l ≡ book_length → ⊥) → (r : Written) → r ≡ written.Refused (refusal_for wrong_length 0) → WritesOn l before before s r
-  write_short h r e = ruled l before before s r (refused wrong_length 0) (rule_short l s (length before) h) (ap paper_written e) refl
+  pub write_short : (length l ≡ book_length → ⊥) → (r : Written) → r ≡ written.Refused (refusal_for WrongLength 0) → WritesOn l before before s r
+  write_short h r e = ruled l before before s r (refused WrongLength 0) (rule_short l s (length before) h) (ap paper_written e) refl
 
   module _ (h : length l ≡ book_length) where
-    pub write_broken : (b : Bool) → b ≡ is_sound l → b ≡ false → (r : Written) → r ≡ written.Refused (refusal_for not_sound 0) → WritesOn l before before s r
-    write_broken b f g r e = ruled l before before s r (refused not_sound 0) (rule_broken l s (length before) h (sym f ∙ g)) (ap paper_written e) refl
+    pub write_broken : (b : Bool) → b ≡ is_sound l → b ≡ false → (r : Written) → r ≡ written.Refused (refusal_for NotSound 0) → WritesOn l before before s r
+    write_broken b f g r e = ruled l before before s r (refused NotSound 0) (rule_broken l s (length before) h (sym f ∙ g)) (ap paper_written e) refl
 
     module _ (sound : is_sound l ≡ true) where
-      not_there : at (book_of l).segments s ≡ None → (r : Written) → r ≡ written.Refused (refusal_for no_such_segment 0) → WritesOn l before before s r
+      not_there : at (book_of l).segments s ≡ None → (r : Written) → r ≡ written.Refused (refusal_for NoSuchSegment 0) → WritesOn l before before s r
       unfolding and_then
       not_there f r e =
-          ruled l before before s r (refused no_such_segment 0) (rule_sound l s (length before) h sound None (no_block (book_of l) s f)) (ap paper_written e) refl
+          ruled l before before s r (refused NoSuchSegment 0) (rule_sound l s (length before) h sound None (no_block (book_of l) s f)) (ap paper_written e) refl
 
-      pub write_low : s < 1 → (r : Written) → r ≡ written.Refused (refusal_for no_such_segment 0) → WritesOn l before before s r
+      pub write_low : s < 1 → (r : Written) → r ≡ written.Refused (refusal_for NoSuchSegment 0) → WritesOn l before before s r
       write_low g r e = let z : s ≡ 0 = omega arith in not_there (ap (λ (k : ℕ). at (book_of l).segments k) z) r e
 
       module _ (n : ℕ) (m : n ≡ get_or l 4 0) where
-        pub write_far : 1 ≤ s → n < s → (r : Written) → r ≡ written.Refused (refusal_for no_such_segment 0) → WritesOn l before before s r
+        pub write_far : 1 ≤ s → n < s → (r : Written) → r ≡ written.Refused (refusal_for NoSuchSegment 0) → WritesOn l before before s r
         write_far f g r e =
             let z : s ≡ suc (s - 1) = omega arith in
             not_there (ap (λ (k : ℕ). at (book_of l).segments k) z ∙ segment_past l (s - 1) (omega arith)) r e

@@ -1,7 +1,7 @@
 -- Document 01, "Steps": make and write.
 use Rattle.std.specs.Prelude.{ℕ, ◌≡◌, List, map, length, eqb}
 use Rattle.std.specs.Prelude.{Option, None, Some}
-use Rattle.refusal.specs.Numbers.{wrong_length, not_sound, no_such_segment}
+use Rattle.refusal.specs.declared.Reason.TheVariants.{WrongLength, NotSound, NoSuchSegment}
 use Rattle.refusal.specs.Answer.{Answer, ok, no, refused, must, and_then, paper_verdict}
 use Rattle.refusal.specs.declared.Verdict.{Verdict}
 use Rattle.codes.specs.Block.{Content}
@@ -21,7 +21,7 @@ book_from b = new_book b.issue (map (λ (g : Segment). g.content) b.segments)
 
 unfoldable pub make_rule : List ℕ → List ℕ → ℕ → ℕ → Answer Book
 make_rule l text year month =
-    and_then (must (eqb (length l) book_length) wrong_length 0) λ _.
+    and_then (must (eqb (length l) book_length) WrongLength 0) λ _.
     and_then (read_bulletin text year month) λ b.
     ok (book_from b)
 
@@ -40,7 +40,7 @@ pub record Makes (before after text : List ℕ) (year month : ℕ) (r : Verdict)
 -- ---- "Write: a segment's block, from the book, into a lent output": 1, 12, "15, then 23 after 12"
 -- "no such segment"
 abbrev pub or_no_segment : {A : Type 0} → Option A → Answer A
-or_no_segment None = refused no_such_segment 0
+or_no_segment None = refused NoSuchSegment 0
 or_no_segment (Some x) = ok x
 
 -- a segment's block: what `writing` gives for its places and purge, with lines that "end CR CR LF". In a sound book it gives one for every segment (`segment_blocked`).
@@ -57,8 +57,8 @@ segment_block b s = content_form (at b.segments s)
 
 unfoldable pub write_on : List ℕ → ℕ → ℕ → Answer (List ℕ)
 write_on l s room =
-    and_then (must (eqb (length l) book_length) wrong_length 0) λ _.
-    and_then (must (is_sound l) not_sound 0) λ _.
+    and_then (must (eqb (length l) book_length) WrongLength 0) λ _.
+    and_then (must (is_sound l) NotSound 0) λ _.
     and_then (or_no_segment (segment_block (book_of l) s)) λ block.
     fitting room block
 

@@ -9,7 +9,7 @@ use Rattle.std.specs.Prelude.{slice_get}
 use lib.Seq.{get_or-take, length-take-le}
 use Rattle.laws.proofs.Tests.{impossible}
 use Rattle.laws.specs.Lists.{All, all_cons}
-use Rattle.refusal.specs.Numbers.{no_such_segment, out_of_range}
+use Rattle.refusal.specs.declared.Reason.TheVariants.{NoSuchSegment, OutOfRange}
 use Rattle.refusal.specs.Answer.{ok, no, refusal_for, and_then}
 use Rattle.refusal.specs.declared.Refusal.{Refusal}
 use Rattle.codes.specs.Block as codes
@@ -65,7 +65,7 @@ module _ (s : List ℕ) (issue start i : ℕ) (k : Content) (w : k ≡ content_f
     long : length (held.places_in k.places) ≡ k.places.count
     long = length-take-le k.places.count k.places.held (omega (arith, g.long, g.few))
 
-    pub place_far : k.places.count ≤ i → (r : Reply) → r ≡ reply.Refused (refusal_for out_of_range 0) → paper_reply r ≡ place_answer i (content_at s issue start)
+    pub place_far : k.places.count ≤ i → (r : Reply) → r ≡ reply.Refused (refusal_for OutOfRange 0) → paper_reply r ≡ place_answer i (content_at s issue start)
     place_far h r er = ap paper_reply er ∙ ap place_at (sym (at_none (held.places_in k.places) i (omega (arith, long)))) ∙ placed
 
     pub place_in_lem : i < k.places.count → (w : ℕ) → w ≡ get_or k.places.held i 0 → paper_reply (reply.Number w) ≡ place_answer i (content_at s issue start)
@@ -104,7 +104,7 @@ module _ (s : List ℕ) (year month n i : ℕ) where
       told : Told s year month h (segments_held b.segments)
       told = told_by s year month h (segments_held b.segments) (read_bulletin s year month) refl read_ok
 
-      pub find_low : n < 1 → (r : Reply) → r ≡ reply.Refused (refusal_for no_such_segment 0) → paper_reply r ≡ place_in s year month n i
+      pub find_low : n < 1 → (r : Reply) → r ≡ reply.Refused (refusal_for NoSuchSegment 0) → paper_reply r ≡ place_in s year month n i
       find_low k r er =
           let z : n ≡ 0 = omega arith in
           ap paper_reply er ∙ ap (λ (m : ℕ). place_answer i (or_no_segment (at (contents_of told.said) m))) (sym z) ∙ sym (rule_ok told.said told.read)
@@ -119,7 +119,7 @@ module _ (s : List ℕ) (year month n i : ℕ) where
         many_contents : length (contents_of told.said) ≡ b.segments.count
         many_contents = length-map told.said.segments (λ (g : segments.Segment). g.content) ∙ many
 
-        pub find_far : b.segments.count < n → (r : Reply) → r ≡ reply.Refused (refusal_for no_such_segment 0) → paper_reply r ≡ place_in s year month n i
+        pub find_far : b.segments.count < n → (r : Reply) → r ≡ reply.Refused (refusal_for NoSuchSegment 0) → paper_reply r ≡ place_in s year month n i
         find_far k r er =
             let one : n ≡ suc (n - 1) = omega arith in
             ap paper_reply er ∙ ap (λ (o : Option codes.Content). place_answer i (or_no_segment o)) (sym (at_none (contents_of told.said) (n - 1) (omega (arith, many_contents))))

@@ -7,7 +7,7 @@ use Rattle.std.specs.Prelude.{Option, None, Some}
 use lib.ListN.{length}
 use lib.Dec.{leb}
 use Rattle.laws.proofs.Tests.{by, apart}
-use Rattle.refusal.specs.Numbers.{wrong_time, wrong_block, too_many_places, place_twice}
+use Rattle.refusal.specs.declared.Reason.TheVariants.{WrongTime, WrongBlock, TooManyPlaces, PlaceTwice}
 use Rattle.refusal.specs.Answer.{Answer, ok, no, refusal_for, and_then}
 use Rattle.calendar.specs.Purge.{purge_of}
 use Rattle.calendar.specs.Paper.{paper_moment}
@@ -71,13 +71,13 @@ refused_good p r e = rw e none_good
 
 module _ (s : List ℕ) (issue start : ℕ) (b : Block) (eb : b ≡ block_for (twice_at s start) (read_block s start)) where
   -- a wrong block
-  pub content_wrong : (place : ℕ) → b.found ≡ Wrong place → (r : Content) → r ≡ record { purge = Refused (refusal_for wrong_block place); places = places_for [] }
+  pub content_wrong : (place : ℕ) → b.found ≡ Wrong place → (r : Content) → r ≡ record { purge = Refused (refusal_for WrongBlock place); places = places_for [] }
       → r ≡ content_for (placed_at s issue start)
   unfolding placed_at content_at and_then
   content_wrong place f r q = q ∙ rw (wrong_is place (twice_at s start) (read_block s start) (sym (ap (λ (x : Block). x.found) eb) ∙ f))
 
   -- a place covered twice
-  pub content_again : (again : ℕ) → b.found ≡ Twice again → (r : Content) → r ≡ record { purge = Refused (refusal_for place_twice again); places = places_for [] }
+  pub content_again : (again : ℕ) → b.found ≡ Twice again → (r : Content) → r ≡ record { purge = Refused (refusal_for PlaceTwice again); places = places_for [] }
       → r ≡ content_for (placed_at s issue start)
   unfolding placed_at content_at and_then
   content_again again f r q =
@@ -101,7 +101,7 @@ module _ (s : List ℕ) (issue start : ℕ) (b : Block) (eb : b ≡ block_for (t
     placed_is = rw (wholly.is, wholly.once, ← em)
 
     -- a purge that has no minute
-    pub content_time : m ≡ moment.Nothing → (r : Content) → r ≡ record { purge = Refused (refusal_for wrong_time place); places = places_for [] } → r ≡ content_for (placed_at s issue start)
+    pub content_time : m ≡ moment.Nothing → (r : Content) → r ≡ record { purge = Refused (refusal_for WrongTime place); places = places_for [] } → r ≡ content_for (placed_at s issue start)
     unfolding and_then
     content_time n r q = let w : placed_at s issue start ≡ no 5 place = placed_is ∙ ap told n in q ∙ sym (ap content_for w)
 
@@ -113,7 +113,7 @@ module _ (s : List ℕ) (issue start : ℕ) (b : Block) (eb : b ≡ block_for (t
       few o = by (leb (length wholly.ps) 120) (λ t. t) (λ t. let z : true ≡ false = sym (ap (λ (x : Block). x.over) read_is ∙ rw t) ∙ o in apart cc)
 
       -- over 120 places
-      pub content_many : b.over ≡ true → (r : Content) → r ≡ record { purge = Refused (refusal_for too_many_places start); places = places_for [] } → r ≡ content_for (placed_at s issue start)
+      pub content_many : b.over ≡ true → (r : Content) → r ≡ record { purge = Refused (refusal_for TooManyPlaces start); places = places_for [] } → r ≡ content_for (placed_at s issue start)
       unfolding and_then
       content_many o r q =
           let c : told (moment.At minute) ≡ no 11 start = rw (many o) in

@@ -11,7 +11,7 @@ use lib.Seq.{length-take-le, take-suc-set, drop-drop}
 use Rattle.laws.proofs.Tests.{apart}
 use Rattle.laws.proofs.Lists.{all_set}
 use Rattle.laws.specs.Lists.{All, all_nil, all_cons}
-use Rattle.refusal.specs.Numbers.{no_end, ninth_segment}
+use Rattle.refusal.specs.declared.Reason.TheVariants.{NoEnd, NinthSegment}
 use Rattle.refusal.specs.Answer.{Answer, ok, no, refusal_for, and_then}
 use Rattle.refusal.specs.declared.Refusal.{Refusal}
 use Rattle.lines.specs.Lines.{Line, is_end, opens}
@@ -81,8 +81,8 @@ module _ (s : List ℕ) (issue : ℕ) (o : Span) (eo : span_at s o.start ≡ Som
     unfolding and_then
     runs_is n = opened_is n ∙ rw (placed_is, end_is)
 
-    pub begun_endless : f ≡ found.Nothing → (r : Next) → r ≡ next.Refused (refusal_for no_end a) → Begun s issue a r
-    begun_endless z r w = record { same = λ n. runs_is n ∙ rw (z, w); few = λ g h. let v : next.Refused (refusal_for no_end a) ≡ next.One g = sym w ∙ h in apart cc }
+    pub begun_endless : f ≡ found.Nothing → (r : Next) → r ≡ next.Refused (refusal_for NoEnd a) → Begun s issue a r
+    begun_endless z r w = record { same = λ n. runs_is n ∙ rw (z, w); few = λ g h. let v : next.Refused (refusal_for NoEnd a) ≡ next.One g = sym w ∙ h in apart cc }
 
     module _ (g : Good c.places) (i : Inside s d f) (b : Span) (z : f ≡ found.Line b) where
       end_line : LineFrom s d b
@@ -136,10 +136,10 @@ module _ (s : List ℕ) (issue left from : ℕ) (f : Found) (ef : found_lines s 
     lines_are : from_first opens (lines_on s from) ≡ lines_on s o.start
     lines_are = sym ef ∙ ap (found_lines s) q
 
-    pub step_ninth : left ≡ 0 → (r : Next) → r ≡ next.Refused (refusal_for ninth_segment o.start) → Stepped s issue left from r
+    pub step_ninth : left ≡ 0 → (r : Next) → r ≡ next.Refused (refusal_for NinthSegment o.start) → Stepped s issue left from r
     unfolding segments_from
     step_ninth z r e =
-        let no_one : (g : Segment) → r ≡ next.One g → ⊥ = λ g h. let w : next.Refused (refusal_for ninth_segment o.start) ≡ next.One g = sym e ∙ h in apart cc in
+        let no_one : (g : Segment) → r ≡ next.One g → ⊥ = λ g h. let w : next.Refused (refusal_for NinthSegment o.start) ≡ next.One g = sym e ∙ h in apart cc in
         record { same = rw (z, e, lines_are, lines_step s o.start (span_inside s o step_line)); room = λ g h. absurd (no_one g h); few = λ g h. absurd (no_one g h) }
 
     pub step_begun : (left ≡ 0 → ⊥) → (r : Next) → Begun s issue o.start r → Stepped s issue left from r

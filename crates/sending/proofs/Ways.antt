@@ -12,7 +12,7 @@ use mir.Syntax.{w64}
 use mir.Val.{Fits}
 use borrow.Author.Tests.{le-leb, lt-leb, eq-eqb, ne_eqb, eqb-true, leb-true}
 use Rattle.laws.proofs.Tests.{and_right}
-use Rattle.refusal.specs.Numbers.{wrong_length, wrong_time, not_sound, output_short, not_belonging}
+use Rattle.refusal.specs.declared.Reason.TheVariants.{WrongLength, WrongTime, NotSound, OutputShort, NotBelonging}
 use Rattle.refusal.specs.Answer.{Answer, ok, no, refused, refusal_for, must, and_then}
 use Rattle.refusal.specs.declared.Refusal.{Refusal}
 use Rattle.calendar.specs.Calendar.{date_of}
@@ -66,15 +66,15 @@ module _ (text l before : List ℕ) where
 
   -- ---- 1
   wrong_length_lem : (is_length text && eqb (length l) book_length) ≡ false
-      → (r : Written) → r ≡ written.Refused (refusal_for wrong_length 0) → WritesEdited text l before before r
+      → (r : Written) → r ≡ written.Refused (refusal_for WrongLength 0) → WritesEdited text l before before r
   unfolding edited_rule and_then
-  wrong_length_lem h r e = ruled before r (refused wrong_length 0) (rw h) (ap paper_written e) refl
+  wrong_length_lem h r e = ruled before r (refused WrongLength 0) (rw h) (ap paper_written e) refl
 
-  pub edited_empty : length text < 1 → (r : Written) → r ≡ written.Refused (refusal_for wrong_length 0) → WritesEdited text l before before r
+  pub edited_empty : length text < 1 → (r : Written) → r ≡ written.Refused (refusal_for WrongLength 0) → WritesEdited text l before before r
   unfolding is_length
   edited_empty h = wrong_length_lem (rw (lt-leb 1 (length text) h))
 
-  pub edited_long : text_most < length text → (r : Written) → r ≡ written.Refused (refusal_for wrong_length 0) → WritesEdited text l before before r
+  pub edited_long : text_most < length text → (r : Written) → r ≡ written.Refused (refusal_for WrongLength 0) → WritesEdited text l before before r
   unfolding is_length
   edited_long h = wrong_length_lem (rw (le-leb 1 (length text) (omega arith), lt-leb (length text) text_most h))
 
@@ -83,7 +83,7 @@ module _ (text l before : List ℕ) where
   is_length_lem h k = rw (le-leb 1 (length text) h, le-leb (length text) text_most k)
 
   pub edited_book : 1 ≤ length text → length text ≤ text_most → (length l ≡ book_length → ⊥)
-      → (r : Written) → r ≡ written.Refused (refusal_for wrong_length 0) → WritesEdited text l before before r
+      → (r : Written) → r ≡ written.Refused (refusal_for WrongLength 0) → WritesEdited text l before before r
   edited_book h k n = wrong_length_lem (rw (is_length_lem h k, ne_eqb (length l) book_length n))
 
   module _ (t : is_length text ≡ true) where
@@ -92,19 +92,19 @@ module _ (text l before : List ℕ) where
     text_most_lem = leb-true (length text) text_most (and_right (leb 1 (length text)) (leb (length text) text_most) t)
 
     -- ---- 12
-    rule_broken : length l ≡ book_length → is_sound l ≡ false → edited_rule text l (length before) ≡ refused not_sound 0
+    rule_broken : length l ≡ book_length → is_sound l ≡ false → edited_rule text l (length before) ≡ refused NotSound 0
     unfolding edited_rule and_then
     rule_broken h s = rw (t, eq-eqb (length l) book_length h, s)
 
     pub edited_broken : length l ≡ book_length → (b : Bool) → b ≡ is_sound l → b ≡ false
-        → (r : Written) → r ≡ written.Refused (refusal_for not_sound 0) → WritesEdited text l before before r
-    edited_broken h b f g r e = ruled before r (refused not_sound 0) (rule_broken h (sym f ∙ g)) (ap paper_written e) refl
+        → (r : Written) → r ≡ written.Refused (refusal_for NotSound 0) → WritesEdited text l before before r
+    edited_broken h b f g r e = ruled before r (refused NotSound 0) (rule_broken h (sym f ∙ g)) (ap paper_written e) refl
 
     module _ (sound : SoundBook l) where
       -- ---- the text read under the book's year and month
       rule_read : (a : Answer rule.Bulletin) → read_under text (date_of (book_of l).issue) ≡ a
           → edited_rule text l (length before) ≡ and_then a
-          (λ r. and_then (must (belongs (book_of l) r) not_belonging 0)
+          (λ r. and_then (must (belongs (book_of l) r) NotBelonging 0)
           (λ _. and_then (written_forms (ends_in r.segments) (book_of l).segments) (λ blocks. fitting (length before) (edited text r.segments blocks))))
       unfolding edited_rule and_then
       rule_read a e = rw (t, eq-eqb (length l) book_length sound.long, sound.sound, e)
@@ -118,10 +118,10 @@ module _ (text l before : List ℕ) where
         under o e = ap (λ (k : ℕ). read_under text (date_of k)) (issue_is n is) ∙ ap (read_under text) (sym e)
 
         module _ (x : Dated) (e : paper_dated x ≡ date_of n) where
-          pub edited_undated : x ≡ dated.Nothing → (r : Written) → r ≡ written.Refused (refusal_for wrong_time 0) → WritesEdited text l before before r
+          pub edited_undated : x ≡ dated.Nothing → (r : Written) → r ≡ written.Refused (refusal_for WrongTime 0) → WritesEdited text l before before r
           unfolding and_then
           edited_undated q r f =
-              ruled before r (refused wrong_time 0) (rule_read (refused wrong_time 0) (under None (ap paper_dated (sym q) ∙ e))) (ap paper_written f) refl
+              ruled before r (refused WrongTime 0) (rule_read (refused WrongTime 0) (under None (ap paper_dated (sym q) ∙ e))) (ap paper_written f) refl
 
       module _ (n : ℕ) (d : Date) (o : IssueOn l n d) (b : Bulletin) (reads : Reads text d.year d.month b) where
         under_date : read_under text (date_of (book_of l).issue) ≡ read_bulletin text d.year d.month
@@ -152,10 +152,10 @@ module _ (text l before : List ℕ) where
               (ap₂ eqb many (segments_length l ∙ sym count))
 
           pub edited_stranger : (eqb head.issue n && eqb b.segments.count m) ≡ false
-              → (r : Written) → r ≡ written.Refused (refusal_for not_belonging 0) → WritesEdited text l before before r
+              → (r : Written) → r ≡ written.Refused (refusal_for NotBelonging 0) → WritesEdited text l before before r
           unfolding and_then
           edited_stranger f r g =
-              ruled before r (refused not_belonging 0)
+              ruled before r (refused NotBelonging 0)
               (rule_read (ok told.said) (under_date ∙ told.read) ∙ rw (belong_is ∙ f))
               (ap paper_written g) refl
 
@@ -247,10 +247,10 @@ module _ (text l before : List ℕ) where
             long = ap (λ (x : List ℕ). length x) (sym filled_is) ∙ filled_long ∙ ap (λ (n : ℕ). n + s.total) (sym is)
 
             pub edited_short : length before < k + s.total
-                → (r : Written) → r ≡ written.Refused (refusal_for output_short 0) → WritesEdited text l before before r
+                → (r : Written) → r ≡ written.Refused (refusal_for OutputShort 0) → WritesEdited text l before before r
             unfolding fitting
             edited_short f r e =
-                ruled before r (refused output_short 0)
+                ruled before r (refused OutputShort 0)
                 (rule_last ∙ rw (lt-leb (length out) (length before) (omega (arith, long))))
                 (ap paper_written e) refl
 

@@ -1,7 +1,7 @@
 -- Document 02, R-1: the rule of the call that writes the edited bulletin out.
 use Rattle.std.specs.Prelude.{ℕ, ◌≡◌, List, Bool, ◌&&◌, length, eqb}
 use Rattle.std.specs.Prelude.{Option, None, Some}
-use Rattle.refusal.specs.Numbers.{wrong_length, wrong_time, not_sound, not_belonging}
+use Rattle.refusal.specs.declared.Reason.TheVariants.{WrongLength, WrongTime, NotSound, NotBelonging}
 use Rattle.refusal.specs.Answer.{Answer, refused, must, and_then}
 use Rattle.calendar.specs.Calendar.{date_of}
 use Rattle.calendar.specs.declared.Date.{Date}
@@ -16,7 +16,7 @@ use Rattle.forms.specs.Edited.{edited, ends_in, written_forms}
 
 -- "The text is read afresh under the year and month of the book's issue minute": a sound book's has both (`sound_dated`).
 abbrev pub read_under : List ℕ → Option Date → Answer Bulletin
-read_under text None = refused wrong_time 0
+read_under text None = refused WrongTime 0
 read_under text (Some d) = read_bulletin text d.year d.month
 
 -- "it belongs to the book if it reads, and its issue and segment count agree"
@@ -26,10 +26,10 @@ belongs b r = eqb r.issue b.issue && eqb (length r.segments) (length b.segments)
 -- "Refusals: 1 for either length, 12, reading's own, 27 (does not belong), 23 last." `room` is the output's length.
 unfoldable pub edited_rule : List ℕ → List ℕ → ℕ → Answer (List ℕ)
 edited_rule text l room =
-    and_then (must (is_length text && eqb (length l) book_length) wrong_length 0) λ _.
-    and_then (must (is_sound l) not_sound 0) λ _.
+    and_then (must (is_length text && eqb (length l) book_length) WrongLength 0) λ _.
+    and_then (must (is_sound l) NotSound 0) λ _.
     and_then (read_under text (date_of (book_of l).issue)) λ r.
-    and_then (must (belongs (book_of l) r) not_belonging 0) λ _.
+    and_then (must (belongs (book_of l) r) NotBelonging 0) λ _.
     and_then (written_forms (ends_in r.segments) (book_of l).segments) λ blocks.
     fitting room (edited text r.segments blocks)
 

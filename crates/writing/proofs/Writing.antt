@@ -8,7 +8,7 @@ use lib.ListN.{length, take, drop}
 use lib.Seq.{sets, take_at}
 use borrow.Author.Tests.{le-leb, lt-leb}
 use Rattle.laws.proofs.Stores.{sets_front}
-use Rattle.refusal.specs.Numbers.{output_short, out_of_range}
+use Rattle.refusal.specs.declared.Reason.TheVariants.{OutputShort, OutOfRange}
 use Rattle.refusal.specs.Answer.{Answer, ok, refusal_for, and_then}
 use Rattle.lines.specs.declared.End.{End}
 use Rattle.calendar.specs.Calendar.{is_time, date_of}
@@ -30,7 +30,7 @@ refuses : (end : End) (out places : List ℕ) (minute number : ℕ) → write_ru
 refuses end out places minute number e r q = record { answer = rw (q, e); output = rw e }
 
 module _ (end : End) (out places : List ℕ) (minute : ℕ) (t : Bool) (et : t ≡ is_set places) where
-  pub writes_no_set : t ≡ false → (r : Written) → r ≡ Refused (refusal_for out_of_range 0) → WritesEnded end out out places minute r
+  pub writes_no_set : t ≡ false → (r : Written) → r ≡ Refused (refusal_for OutOfRange 0) → WritesEnded end out out places minute r
   unfolding write_rule written_block and_then
   writes_no_set n = refuses end out places minute 24 (rw (← et, n))
 
@@ -42,7 +42,7 @@ module _ (end : End) (out places : List ℕ) (minute : ℕ) (t : Bool) (et : t �
     unfolding written_block
     block_is = rw (← et, y, ← ed)
 
-    pub writes_no_date : d ≡ dated.Nothing → (r : Written) → r ≡ Refused (refusal_for out_of_range 0) → WritesEnded end out out places minute r
+    pub writes_no_date : d ≡ dated.Nothing → (r : Written) → r ≡ Refused (refusal_for OutOfRange 0) → WritesEnded end out out places minute r
     unfolding write_rule and_then
     writes_no_date n = refuses end out places minute 24 (ap (λ (a : Answer (List ℕ)). and_then a (fitting (length out))) (block_is ∙ ap (λ (x : Dated). dated_block end places (paper_dated x)) n))
 
@@ -55,7 +55,7 @@ module _ (end : End) (out places : List ℕ) (minute : ℕ) (t : Bool) (et : t �
         unfolding write_rule and_then
         rule_is = ap (λ (a : Answer (List ℕ)). and_then a (fitting (length out))) (block_is ∙ ap (λ (x : Dated). dated_block end places (paper_dated x)) q)
 
-        pub writes_short : length out < n → (r : Written) → r ≡ Refused (refusal_for output_short 0) → WritesEnded end out out places minute r
+        pub writes_short : length out < n → (r : Written) → r ≡ Refused (refusal_for OutputShort 0) → WritesEnded end out out places minute r
         unfolding fitting
         writes_short h = refuses end out places minute 23 (rule_is ∙ rw (lt-leb (length (written end places date.stamp)) (length out) (omega (arith, c.long))))
 

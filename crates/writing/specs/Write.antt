@@ -1,7 +1,7 @@
 -- Document 01, "Write": the rule of the call on what it is handed, for each end that the lines of the block may have.
 use Rattle.std.specs.Prelude.{ℕ, ◌≡◌, List, ◌++◌, cond, length, drop, leb}
 use Rattle.std.specs.Prelude.{Option, None, Some}
-use Rattle.refusal.specs.Numbers.{output_short, out_of_range}
+use Rattle.refusal.specs.declared.Reason.TheVariants.{OutputShort, OutOfRange}
 use Rattle.refusal.specs.Answer.{Answer, ok, no, refused, and_then, paper_refusal}
 use Rattle.lines.specs.declared.End.{End}
 use Rattle.lines.specs.declared.End.TheVariants.{CrCrLf}
@@ -14,15 +14,15 @@ use Rattle.writing.specs.declared.Written.TheVariants.{Length, Refused}
 
 -- the block of these places and this purge minute, its lines ending so: 24 for what is no segment's content
 abbrev pub dated_block : End → List ℕ → Option Date → Answer (List ℕ)
-dated_block end ps None = refused out_of_range 0
+dated_block end ps None = refused OutOfRange 0
 dated_block end ps (Some d) = ok (written end ps d.stamp)
 
 unfoldable pub written_block : End → List ℕ → ℕ → Answer (List ℕ)
-written_block end ps minute = cond (is_set ps) (dated_block end ps (date_of minute)) (refused out_of_range 0)
+written_block end ps minute = cond (is_set ps) (dated_block end ps (date_of minute)) (refused OutOfRange 0)
 
 -- "output shorter than the block"
 unfoldable pub fitting : ℕ → List ℕ → Answer (List ℕ)
-fitting room block = cond (leb (length block) room) (ok block) (refused output_short 0)
+fitting room block = cond (leb (length block) room) (ok block) (refused OutputShort 0)
 
 unfoldable pub write_rule : End → ℕ → List ℕ → ℕ → Answer (List ℕ)
 write_rule end room ps minute = and_then (written_block end ps minute) (fitting room)
