@@ -67,7 +67,7 @@ twice_step s before c =
 
 -- ---- by places
 -- a stretch of at least one place
-pub record Some (a : Stretch) : Type 0 where
+pub record Stretched (a : Stretch) : Type 0 where
   pub order : a.from ≤ a.to
 
 -- a place that a stretch and one of these cover
@@ -83,7 +83,7 @@ gathered [] = []
 gathered (b ∷ bs) = insert_run (suc b.to - b.from) b.from (gathered bs)
 
 -- covered before: one of the places gathered lies in the stretch
-pub before_gathered : (a : Stretch) (bs : List Stretch) → Some a → All Some bs → covered_before a bs ≡ true → Both a (gathered bs)
+pub before_gathered : (a : Stretch) (bs : List Stretch) → Stretched a → All Stretched bs → covered_before a bs ≡ true → Both a (gathered bs)
 unfolding covered_before gathered
 before_gathered a [] h all_nil e = apart cc
 before_gathered a (b ∷ bs) h (all_cons k ks) e =

@@ -97,11 +97,11 @@ first_from text stop rs e =
     from_line3_lem text (past_mnd (lines_of text)) past stop (lines_after (lines_after (lines_of text))) third rs e
 
 -- one segment or more
-pub record Some (gs hs : List Segment) : Type 0 where
+pub record SomeSegments (gs hs : List Segment) : Type 0 where
   pub same : gs ≡ hs
   pub one : 1 ≤ length hs
 
-pub some_same : (stop : ℕ) (gs hs : List Segment) → one_or_more stop gs ≡ ok hs → Some gs hs
+pub some_same : (stop : ℕ) (gs hs : List Segment) → one_or_more stop gs ≡ ok hs → SomeSegments gs hs
 some_same stop [] hs e = apart cc
 some_same stop (g ∷ gs) hs e = let p = ok_one (g ∷ gs) hs e in record { same = p; one = subst (λ (l : List Segment). 1 ≤ length l) p (omega arith) }
 

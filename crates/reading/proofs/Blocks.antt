@@ -22,7 +22,7 @@ use Rattle.codes.specs.declared.Cursor.{Cursor}
 use Rattle.codes.specs.declared.Step.{Step}
 use Rattle.codes.proofs.Bounds.{Below}
 use Rattle.codes.proofs.Steps.{read_then, read_step, Ahead, step_ahead}
-use Rattle.codes.proofs.Twice.{twice_then, twice_step, Some, gathered, before_gathered, gathered_before}
+use Rattle.codes.proofs.Twice.{twice_then, twice_step, Stretched, gathered, before_gathered, gathered_before}
 use Rattle.sets.specs.Held.{vacant, places_for, places_in, Good}
 use Rattle.sets.specs.Runs.{capped, kept, held_by, held_after, is_over, is_twice, holds_in, Grown}
 use Rattle.sets.specs.declared.Places.{Places}
@@ -73,7 +73,7 @@ twice_on s c before = twice_from (paper_last c.last) before (elements_from c.at 
 -- the block from here is the block from its start: all places so far are held, and the first element that covers one of them again is still ahead
 pub record Reads (s : List ℕ) (at : ℕ) (c : Cursor) (held : List ℕ) (count : ℕ) : Type 0 where
   pub before : List Stretch
-  pub each : All Some before
+  pub each : All Stretched before
   pub good : Good (kept held count)
   pub all : take count held ≡ gathered before
   pub known : Below (paper_last c.last)
@@ -94,7 +94,7 @@ reads_start s at held h =
     }
 
 -- covered before, as the set of the places so far tells
-covered_held : (a : Stretch) (before : List Stretch) → Some a → All Some before → holds_in a.from a.to (gathered before) ≡ covered_before a before
+covered_held : (a : Stretch) (before : List Stretch) → Stretched a → All Stretched before → holds_in a.from a.to (gathered before) ≡ covered_before a before
 covered_held a before h k =
     same_test (holds_in a.from a.to (gathered before)) (covered_before a before)
     (λ e. gathered_before a before (holds_out a (gathered before) e))
@@ -146,7 +146,7 @@ module _ (s : List ℕ) (at : ℕ) (c : Cursor) (array : List ℕ) (count : ℕ)
     pub reads_known : Known behind
     reads_known = record { low = below_known (Some p) ahead.low.known }
 
-    some_here : Some here
+    some_here : Stretched here
     some_here = record { order = omega (arith, ahead.low.order) }
 
     more_is : insert_covered p n m got ≡ gathered (here ∷ v.before)

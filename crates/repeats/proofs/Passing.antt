@@ -19,7 +19,7 @@ use Rattle.codes.specs.Cursor.{step_at}
 use Rattle.codes.specs.declared.Cursor.{Cursor}
 use Rattle.codes.specs.declared.Step.{Step}
 use Rattle.codes.proofs.Steps.{Ahead}
-use Rattle.codes.proofs.Twice.{Some, Both, before_gathered, gathered_before}
+use Rattle.codes.proofs.Twice.{Stretched, Both, before_gathered, gathered_before}
 use Rattle.repeats.specs.Marks.{window, window_words, from_up_to, bit_at, mark, Noted}
 use Rattle.repeats.specs.Passes.{cursor_behind, nearest, coverings, first_twice}
 use Rattle.repeats.proofs.Elements.{Reading, rest, start, reading_start, rest_purge, rest_wrong, ahead, reading_on}
@@ -35,12 +35,12 @@ record Point (a : Stretch) (before : List Stretch) : Type 0 where
   to : place ≤ a.to
   covered : covered_before (point place) before ≡ true
 
-point_in : (a : Stretch) (before : List Stretch) → All Some before → Point a before → covered_before a before ≡ true
+point_in : (a : Stretch) (before : List Stretch) → All Stretched before → Point a before → covered_before a before ≡ true
 point_in a before s x =
     let b : Both (point x.place) _ = before_gathered (point x.place) before (record { order = omega arith }) s x.covered in
     gathered_before a before (record { place = b.place; from = omega (arith, x.from, b.from); to = omega (arith, x.to, b.to); among = b.among })
 
-point_out : (a : Stretch) (before : List Stretch) → Some a → All Some before → covered_before a before ≡ true → Point a before
+point_out : (a : Stretch) (before : List Stretch) → Stretched a → All Stretched before → covered_before a before ≡ true → Point a before
 point_out a before h s e =
     let b = before_gathered a before h s e in
     record {
@@ -105,7 +105,7 @@ module _ (low p n m : ℕ) (w : Low p n m) (before : List Stretch) (marks : List
       apart_from i h =
           beside low p u (λ a. over_this i (omega (arith, w.number))) (λ a. under_this i (omega arith))
 
-  module _ (after : List ℕ) (hit : Bool) (r : Noted low p n m marks after hit) (s : All Some before) where
+  module _ (after : List ℕ) (hit : Bool) (r : Noted low p n m marks after hit) (s : All Stretched before) where
     module _ (u : from_up_to low (low + window) p ≡ true) where
       from_low : low ≤ p
       from_low = leb-true low p (and_left (leb low p) (ltb p (low + window)) u)
@@ -171,7 +171,7 @@ module _ (low p n m : ℕ) (w : Low p n m) (before : List Stretch) (marks : List
 pub record Passing (text : List ℕ) (at low : ℕ) (c : Cursor) (next : ℕ) (marks : List ℕ) : Type 0 where
   pub reading : Reading text c
   pub before : List Stretch
-  pub some_each : All Some before
+  pub some_each : All Stretched before
   pub marked : Marked low before marks
   pub from : low + window ≤ next
   pub same : (k : ℕ) → low + window ≤ k → k ≤ next → Seeks text at c reading before (from_up_to low k)
@@ -226,7 +226,7 @@ module _ (text : List ℕ) (at low : ℕ) (c : Cursor) (next : ℕ) (marks : Lis
         pub passing_on : hit ≡ false → (next' : ℕ) → next' ≡ nearest next (low + window) p → Passing text at low (cursor_behind p past) next' after
         passing_on t next' en =
             let near : Nearer next (low + window) p next' = nearer_is next (low + window) p next' en in
-            let some-place : Some (stretch_of p n m) = record { order = omega (arith, passing_low.order) } in
+            let some-place : Stretched (stretch_of p n m) = record { order = omega (arith, passing_low.order) } in
             record {
               reading = reading_on text c v.reading p n m past (sym q ∙ e);
               before = stretch_of p n m ∷ v.before;

@@ -14,7 +14,7 @@ use Rattle.codes.specs.Elements.{Element, said, covers, purge, wrong, Said}
 use Rattle.codes.specs.Block.{Stretch, stretch_of, covered_before, twice_from}
 use Rattle.codes.proofs.Bounds.{Below, covers_low}
 use Rattle.codes.proofs.Members.{run_keeps, run_here, run_from_lem}
-use Rattle.codes.proofs.Twice.{Some, gathered, before_gathered, gathered_before, twice_covers, twice_purge, twice_wrong}
+use Rattle.codes.proofs.Twice.{Stretched, gathered, before_gathered, gathered_before, twice_covers, twice_purge, twice_wrong}
 use Rattle.roundtrip.specs.Round.{CoveredAt, this, further, CoveredTwice, both, both_further}
 
 -- a place so far that the element at y covers, or a place that two elements cover, the later one at y
@@ -34,16 +34,16 @@ module _ (y : ℕ) (last : Option ℕ) (before : List Stretch) (e : Element) (es
         (run_from_lem (suc (place_of p m) - place_of p n) (place_of p n) q (gathered before) w),
   )
 
-found : (y : ℕ) (last : Option ℕ) (before : List Stretch) (es : List Element) → Below last → All Some before → twice_from last before es ≡ Some y → Found y last before es
+found : (y : ℕ) (last : Option ℕ) (before : List Stretch) (es : List Element) → Below last → All Stretched before → twice_from last before es ≡ Some y → Found y last before es
 unfolding twice_from
 found y last before [] b u w = apart cc
 found y last before (e ∷ es) b u w = go (λ p l. found y (Some p) l es) (said last e.bytes) refl
   where
-    go : ((p : ℕ) (l : List Stretch) → Below (Some p) → All Some l → twice_from (Some p) l es ≡ Some y → Found y (Some p) l es)
+    go : ((p : ℕ) (l : List Stretch) → Below (Some p) → All Stretched l → twice_from (Some p) l es ≡ Some y → Found y (Some p) l es)
         → (x : Said) → said last e.bytes ≡ x → Found y last before (e ∷ es)
     go i (covers p n m) s =
         let low = covers_low last e.bytes p n m b s in
-        let here : Some (stretch_of p n m) = record { order = omega (arith, low.order) } in
+        let here : Stretched (stretch_of p n m) = record { order = omega (arith, low.order) } in
         let v : cond (covered_before (stretch_of p n m) before) (Some e.at) (twice_from (Some p) (stretch_of p n m ∷ before) es) ≡ Some y =
         sym (twice_covers last before e es p n m s) ∙ w in
         by (covered_before (stretch_of p n m) before)
