@@ -15,7 +15,7 @@ ghost use Rattle.codes.specs.Cursor.{paper_last};
 use calendar::{Dated, Stamp};
 use codes::Last;
 use lines::End;
-use refusal::Refusal;
+use refusal::{Reason, Refusal};
 
 // ZZZ999 is the last place before this number.
 const PLACES_END: u32 = 1352000;
@@ -28,13 +28,6 @@ const WRITTEN_MOST: usize = 66;
 
 // A purge has so many bytes, `DDHHMM-`.
 const PURGE_LENGTH: usize = 7;
-
-// The length of the block that was written.
-#[derive(Clone, Copy)]
-pub enum Written {
-    Length(usize),
-    Refused(Refusal),
-}
 
 // Where the next byte goes, and how many bytes its line has. How lines end is handed on beside it: in the pen it would be copied at every element.
 #[derive(Clone, Copy)]
@@ -362,35 +355,28 @@ fn compose(out: &mut [u8], places: &[u32], stamp: Stamp, end: End) -> usize
     close(&mut *out, s, stamp, end)
 }
 
-fn refused(number: usize) -> Written
-    ensures { result ≡ Written.Refused (record { number = number; place = 0 }) }
-{
-    Written::Refused(Refusal { number, place: 0 })
-}
-
-// Writes the block of these places and this purge minute to the front of out, its lines ending so. It is composed apart, so that an output that is too short stays as it was.
-pub fn write_ended(out: &mut [u8], places: &[u32], purge: usize, end: End) -> Written
+// Writes the block of these places and this purge minute to the front of out, its lines ending so, and answers its length. It is composed apart, so that an output that is
+// too short stays as it was.
+pub fn write_ended(out: &mut [u8], places: &[u32], purge: usize, end: End) -> Result<usize, Refusal>
     ensures { WritesEnded end out.old out.new places.now purge result }
 {
-    if is_set(places) {
-        let Dated::On(date) = calendar::date_of(purge) else {
-            return refused(refusal::OUT_OF_RANGE);
-        };
-        let mut block = [0u8; 2048];
-        let stamp = date.stamp;
-        let n = compose(&mut block, places, stamp, end);
-        if out.len() < n {
-            return refused(refusal::OUTPUT_SHORT);
-        }
-        put(&mut *out, 0, &block, n);
-        Written::Length(n)
-    } else {
-        refused(refusal::OUT_OF_RANGE)
+    if !is_set(places) {
+        return Err(Reason::OutOfRange.into());
     }
+    let Dated::On(date) = calendar::date_of(purge) else {
+        return Err(Reason::OutOfRange.into());
+    };
+    let mut block = [0u8; 2048];
+    let n = compose(&mut block, places, date.stamp, end);
+    if out.len() < n {
+        return Err(Reason::OutputShort.into());
+    }
+    put(&mut *out, 0, &block, n);
+    Ok(n)
 }
 
 // The write call's block, whose lines end CR CR LF.
-pub fn write_block(out: &mut [u8], places: &[u32], purge: usize) -> Written
+pub fn write_block(out: &mut [u8], places: &[u32], purge: usize) -> Result<usize, Refusal>
     ensures { Writes out.old out.new places.now purge result }
 {
     write_ended(&mut *out, places, purge, End::CrCrLf)

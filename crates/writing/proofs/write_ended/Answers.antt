@@ -14,8 +14,8 @@ compose-n-requires-clause-stamp_value c = search (writes_time, rules)
 pub returns-then-out-n : goal.returns-then-out-n
 returns-then-out-n c = search (writes_short, rules)
 
-pub returns-else-out-n : goal.returns-else-out-n
-returns-else-out-n c = search (writes_whole, rules)
+pub returns : goal.returns
+returns c = search (writes_whole, rules)
 
-pub returns-else-is_set : goal.returns-else-is_set
-returns-else-is_set c = search (writes_no_set, rules)
+pub returns-then-not-is_set : goal.returns-then-not-is_set
+returns-then-not-is_set c = search (writes_no_set, rules)
