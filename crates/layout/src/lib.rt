@@ -11,7 +11,6 @@ ghost use Rattle.laws.specs.Lists.{every};
 ghost use Rattle.layout.specs.Sound.{is_issue};
 ghost use Rattle.layout.specs.Tests.{is_draft, is_step, is_draft_at, is_step_at, is_index, used, is_good, is_sound};
 
-use calendar::Windowed;
 use refusal::Refusal;
 
 // Segments that changed, ascending.
@@ -180,7 +179,7 @@ fn are_good(book: &[u8]) -> bool
     ensures { result ≡ every (is_good book.now) (upward 1 48) }
 {
     let issue = blocks::number_at(book, 0);
-    let Windowed::Is(w) = calendar::window_of(issue as usize) else {
+    let Some(w) = calendar::window_of(issue as usize) else {
         return false;
     };
     let mut k: usize = 1;

@@ -9,7 +9,6 @@ ghost use Rattle.printing.specs.Paper.{paper_asked};
 
 use bulletin::{Head, Reading};
 use heading::{Basin, Bbb, Storm, StormId};
-use lines::Lined;
 use refusal::Refusal;
 use segments::Segment;
 use std::io;
@@ -129,7 +128,7 @@ fn say_storm<W: Write>(out: &mut W, storm: Storm) -> io::Result<()> {
 
 // The line that starts at `at`, without its end.
 fn say_line<W: Write>(out: &mut W, text: &[u8], at: usize) -> io::Result<()> {
-    if let Lined::Line(line) = lines::find_line(text, at) {
+    if let Some(line) = lines::find_line(text, at) {
         say(out, lines::part(text, line.start, line.end))?;
     }
     Ok(())

@@ -10,10 +10,8 @@ ghost use Rattle.codes.specs.Written.{joins, parted, new_prefix, up_to, element_
 ghost use Rattle.writing.specs.Ink.{Open};
 ghost use Rattle.writing.specs.Write.{WritesEnded, Writes};
 ghost use Rattle.writing.specs.Pen.{Stored, element_most, run_from, Room, ink_most, Inked, FineState, Turned, close_most, Closed, block_most, Composed};
-ghost use Rattle.codes.specs.Cursor.{paper_last};
 
-use calendar::{Dated, Stamp};
-use codes::Last;
+use calendar::Stamp;
 use lines::End;
 use refusal::{Reason, Refusal};
 
@@ -40,7 +38,7 @@ struct Pen {
 #[derive(Clone, Copy)]
 struct State {
     pen: Pen,
-    last: Last,
+    last: Option<usize>,
     lo: u32,
     more: u32,
 }
@@ -66,12 +64,12 @@ fn is_set(places: &[u32]) -> bool
 }
 
 // Whether p is the prefix of the last element.
-fn is_last(last: Last, p: u32) -> bool
-    ensures { new_prefix (paper_last last) p ≡ cond result [] (prefix_bytes p) }
+fn is_last(last: Option<usize>, p: u32) -> bool
+    ensures { new_prefix (last) p ≡ cond result [] (prefix_bytes p) }
 {
     match last {
-        Last::Prefix(q) => q == codes::wide(p),
-        Last::Nothing => false,
+        Some(q) => q == codes::wide(p),
+        None => false,
     }
 }
 
@@ -134,9 +132,9 @@ fn put_prefix(out: &mut [u8], pos: usize, p: u32) -> usize
 }
 
 // The prefix, unless it is that of the last element.
-fn put_new_prefix(out: &mut [u8], pos: usize, last: Last, p: u32) -> usize
+fn put_new_prefix(out: &mut [u8], pos: usize, last: Option<usize>, p: u32) -> usize
     requires { (pos + 3 ≤ length out.old) × (p < prefixes) }
-    ensures stored { Stored out.old out.new pos result (new_prefix (paper_last last) p) }
+    ensures stored { Stored out.old out.new pos result (new_prefix (last) p) }
     ensures most { result ≤ pos + 3 }
 {
     if is_last(last, p) {
@@ -159,9 +157,9 @@ fn put_end(out: &mut [u8], pos: usize, n: u32, more: u32) -> usize
 }
 
 // The element of lo and so many more.
-fn put_element(out: &mut [u8], pos: usize, last: Last, lo: u32, more: u32) -> usize
+fn put_element(out: &mut [u8], pos: usize, last: Option<usize>, lo: u32, more: u32) -> usize
     requires { (pos + element_most ≤ length out.old) × (lo < places_end) × (lo % 1000 + more ≤ 999) }
-    ensures { Stored out.old out.new pos result (element_of (paper_last last) (run_from lo more)) }
+    ensures { Stored out.old out.new pos result (element_of (last) (run_from lo more)) }
 {
     let n = lo % 1000;
     let number = put_new_prefix(&mut *out, pos, last, lo / 1000);
@@ -171,8 +169,8 @@ fn put_element(out: &mut [u8], pos: usize, last: Last, lo: u32, more: u32) -> us
     end + 1
 }
 
-fn new_prefix_length(last: Last, p: u32) -> usize
-    ensures value { result ≡ length (new_prefix (paper_last last) p) }
+fn new_prefix_length(last: Option<usize>, p: u32) -> usize
+    ensures value { result ≡ length (new_prefix (last) p) }
     ensures most { result ≤ 3 }
 {
     if is_last(last, p) {
@@ -182,8 +180,8 @@ fn new_prefix_length(last: Last, p: u32) -> usize
 }
 
 // How many bytes the element of lo and so many more has, `nnn-` or `nnn>mmm-` behind its prefix.
-fn element_length(last: Last, lo: u32, more: u32) -> usize
-    ensures value { result ≡ length (element_of (paper_last last) (run_from lo more)) }
+fn element_length(last: Option<usize>, lo: u32, more: u32) -> usize
+    ensures value { result ≡ length (element_of (last) (run_from lo more)) }
     ensures most { result ≤ element_most }
 {
     let n = new_prefix_length(last, lo / 1000);
@@ -245,9 +243,9 @@ fn make_room(out: &mut [u8], pen: Pen, n: usize, end: End) -> Pen
 }
 
 // Sets the element of lo and so many more in the line, or in a new one.
-fn add(out: &mut [u8], pen: Pen, last: Last, lo: u32, more: u32, end: End) -> Pen
+fn add(out: &mut [u8], pen: Pen, last: Option<usize>, lo: u32, more: u32, end: End) -> Pen
     requires { (lo < places_end) × (lo % 1000 + more ≤ 999) × (pen.pos + ink_most ≤ length out.old) × (pen.col ≤ written_most) }
-    ensures { Inked end out.old out.new pen result (element_of (paper_last last) (run_from lo more) ∷ []) }
+    ensures { Inked end out.old out.new pen result (element_of (last) (run_from lo more) ∷ []) }
 {
     let n = element_length(last, lo, more);
     let at = make_room(&mut *out, pen, n, end);
@@ -279,15 +277,15 @@ fn joins(p: u32, q: u32) -> bool
 }
 
 // Writes a run: one of two as two singles, any other as one element.
-fn flush(out: &mut [u8], pen: Pen, last: Last, lo: u32, more: u32, end: End) -> Pen
+fn flush(out: &mut [u8], pen: Pen, last: Option<usize>, lo: u32, more: u32, end: End) -> Pen
     requires { Open lo more × (lo + more < places_end) × (pen.pos + 2 * ink_most ≤ length out.old) × (pen.col ≤ written_most) }
-    ensures inked { Inked end out.old out.new pen result (elements_of (paper_last last) (parted lo more)) }
+    ensures inked { Inked end out.old out.new pen result (elements_of (last) (parted lo more)) }
     ensures most { result.pos ≤ pen.pos + 2 * ink_most }
 {
     if more == 1 {
         let next = add(&mut *out, pen, last, lo, 0, end);
         let under = codes::wide(lo / 1000);
-        return add(&mut *out, next, Last::Prefix(under), lo + 1, 0, end);
+        return add(&mut *out, next, Some(under), lo + 1, 0, end);
     }
     add(&mut *out, pen, last, lo, more, end)
 }
@@ -313,7 +311,7 @@ fn turn(out: &mut [u8], s: State, q: u32, end: End) -> State
     let under = codes::wide(lo / 1000);
     State {
         pen: next,
-        last: Last::Prefix(under),
+        last: Some(under),
         lo: q,
         more: 0,
     }
@@ -343,7 +341,7 @@ fn compose(out: &mut [u8], places: &[u32], stamp: Stamp, end: End) -> usize
     let first = places[0];
     let mut s = State {
         pen: Pen { pos: 0, col: 0 },
-        last: Last::Nothing,
+        last: None,
         lo: first,
         more: 0,
     };
@@ -363,9 +361,7 @@ pub fn write_ended(out: &mut [u8], places: &[u32], purge: usize, end: End) -> Re
     if !is_set(places) {
         return Err(Reason::OutOfRange.into());
     }
-    let Dated::On(date) = calendar::date_of(purge) else {
-        return Err(Reason::OutOfRange.into());
-    };
+    let date = calendar::date_of(purge).ok_or(Reason::OutOfRange)?;
     let mut block = [0u8; 2048];
     let n = compose(&mut block, places, date.stamp, end);
     if out.len() < n {
