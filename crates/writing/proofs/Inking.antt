@@ -85,7 +85,3 @@ module _ (end : End) (a : List ℕ) (last : Option ℕ) (lo more : ℕ) (p : Pen
   flush_two h b c q r d u eu g =
       let g' : Inked end b c q r (element_of (Some (lo / 1000)) (run_from (lo + 1) 0) ∷ []) = rw eu at g in
       rw (h, ← add-one lo) (inked_on d g')
-
--- whether a prefix is the last one
-pub last_told : (l : Option ℕ) (q p w : ℕ) → l ≡ Some q → w ≡ p → new_prefix l p ≡ cond (eqb q w) [] (prefix_bytes p)
-last_told l q p w e f = rw (e, f)

@@ -67,10 +67,7 @@ fn is_set(places: &[u32]) -> bool
 fn is_last(last: Option<usize>, p: u32) -> bool
     ensures { new_prefix (last) p ≡ cond result [] (prefix_bytes p) }
 {
-    match last {
-        Some(q) => q == codes::wide(p),
-        None => false,
-    }
+    last == Some(codes::wide(p))
 }
 
 // An element's bytes go straight to their places in the output. Were it built by value, a copy of it would wait for each of its bytes.
