@@ -1,10 +1,11 @@
 -- The MND block, its storm, and where the segments start: one law for each way out. Assumes nothing.
+use Rattle.heading.specs.declared.StormId.{StormId}
+use Rattle.std.specs.Prelude.{Option, None, Some, option_map}
 use Prim.Native.Nat.{ℕ, ◌+◌, ◌-◌, ◌≤◌}
 use native.Mathlib.Omega.{arith}
 use mathlib.Core.Path.{◌≡◌, refl, sym, ap, ◌∙◌}
 use mathlib.Core.List.{List, [], ◌∷◌}
 use mathlib.Core.Bool.{Bool, true, false, cond}
-use Rattle.std.specs.Prelude.{Option, None, Some}
 use lib.ListN.{length, drop, length-drop}
 use borrow.Author.Tests.{eqb-true}
 use Rattle.laws.proofs.Tests.{by, apart, and_left}
@@ -18,9 +19,7 @@ use Rattle.lines.proofs.Ends.{end_of, line_at, lines_step, lines_last, found_non
 use Rattle.lines.proofs.Strings.{exactly_is}
 use Rattle.heading.specs.Storm as storm
 use Rattle.heading.specs.Storm.{is_office, storm_form, names_storm, StormName, storm_of}
-use Rattle.heading.specs.Paper.{paper_storm, paper_named}
-use Rattle.heading.specs.declared.Storm.{Storm}
-use Rattle.heading.specs.declared.Storm.TheVariants as named
+use Rattle.heading.specs.Paper.{paper_id, paper_named}
 use Rattle.heading.specs.declared.Named.{Named}
 use Rattle.heading.specs.declared.Named.TheVariants as naming
 use Rattle.segments.specs.Search.{from_first, up_to_first, closes}
@@ -53,7 +52,7 @@ storm_long line e =
     (λ y. let f : storm.no_storm ≡ storm.refused_storm = rw y at e in apart cc)
 
 module _ (s : List ℕ) (from : ℕ) (f : Option Span) (ef : found_lines s f ≡ from_first office_or_close (lines_on s from)) where
-  pub storm_none : f ≡ None → paper_stormed (stormed.Right named.None) ≡ office_storm (from_first is_office (up_to_first closes (lines_on s from)))
+  pub storm_none : f ≡ None → paper_stormed (stormed.Right None) ≡ office_storm (from_first is_office (up_to_first closes (lines_on s from)))
   unfolding first_storm
   storm_none q = sym (office_is (lines_on s from) ∙ rw (← ef, q))
 
@@ -72,19 +71,19 @@ module _ (s : List ℕ) (from : ℕ) (f : Option Span) (ef : found_lines s f ≡
     unfolding first_storm
     first_is = office_is (lines_on s from) ∙ rw (← ef, q, lines_step s a (span_inside s l here), body_is, ← et)
 
-    pub storm_closed : t ≡ true → paper_stormed (stormed.Right named.None) ≡ office_storm (from_first is_office (up_to_first closes (lines_on s from)))
+    pub storm_closed : t ≡ true → paper_stormed (stormed.Right None) ≡ office_storm (from_first is_office (up_to_first closes (lines_on s from)))
     storm_closed y = sym (first_is ∙ rw y)
 
     module _ (n : t ≡ false) (m : Named) (em : paper_named m ≡ storm_of line) where
       said_is : office_storm (from_first is_office (up_to_first closes (lines_on s from))) ≡ storm_said (line_at s a) (paper_named m)
       said_is = first_is ∙ rw (n, em)
 
-      pub storm_right : (x : Storm) → m ≡ naming.Right x → paper_stormed (stormed.Right x) ≡ office_storm (from_first is_office (up_to_first closes (lines_on s from)))
+      pub storm_right : (x : Option StormId) → m ≡ naming.Right x → paper_stormed (stormed.Right x) ≡ office_storm (from_first is_office (up_to_first closes (lines_on s from)))
       storm_right x y = sym (said_is ∙ ap (λ (k : Named). storm_said (line_at s a) (paper_named k)) y ∙ plain x)
         where
-          plain : (x : Storm) → storm_said (line_at s a) (paper_named (naming.Right x)) ≡ ok (paper_storm x)
-          plain named.None = refl
-          plain (named.Found id) = refl
+          plain : (x : Option StormId) → storm_said (line_at s a) (paper_named (naming.Right x)) ≡ ok (option_map paper_id x)
+          plain None = refl
+          plain (Some id) = refl
 
       module _ (y : m ≡ naming.Wrong) where
         end_is : l.end ≡ a + length line

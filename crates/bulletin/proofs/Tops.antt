@@ -1,5 +1,5 @@
 -- The top of a bulletin: lines 1 and 2 and the issue. Assumes nothing.
-use Rattle.std.specs.Prelude.{Option, None, Some}
+use Rattle.std.specs.Prelude.{Option, None, Some, option_map}
 use Prim.Native.Nat.{ℕ, ◌≤◌}
 use native.Mathlib.Omega.{arith}
 use mathlib.Core.Path.{◌≡◌, sym, ap, ◌∙◌}
@@ -19,10 +19,8 @@ use Rattle.lines.specs.declared.Span.{Span}
 use Rattle.lines.proofs.Ends.{next_of, next_last, next_within, lines_step, lines_last, found_none, found_here, found_next}
 use Rattle.calendar.specs.Calendar.{is_issue_month, minute_of}
 use Rattle.heading.specs.Heading.{heading_of, is_identifier}
-use Rattle.heading.specs.Paper.{paper_headed, paper_heading}
+use Rattle.heading.specs.Paper.{paper_heading}
 use Rattle.heading.specs.declared.Heading.{Heading}
-use Rattle.heading.specs.declared.Headed.{Headed}
-use Rattle.heading.specs.declared.Headed.TheVariants as headed
 use Rattle.segments.specs.Search.{lines_after}
 use Rattle.segments.specs.Searching.{lines_on}
 use Rattle.bulletin.specs.Bulletin as rule
@@ -100,23 +98,23 @@ module _ (s : List ℕ) (year month second : ℕ) (g : Heading) (fb : Option Spa
       unfolding second_of and_then
       second_right issue z = rw (second_line, y, ← em, z, third_lines)
 
-module _ (s : List ℕ) (year month : ℕ) (fa : Option Span) (ea : fa ≡ span_at s 0) (a : Span) (qa : fa ≡ Some a) (line : List ℕ) (el : line ≡ part s 0 a.end) (h : Headed) (eh : paper_headed h ≡ heading_of line) where
-  heading_is : line1 (lines_of s) ≡ rule.headed (paper_headed h)
+module _ (s : List ℕ) (year month : ℕ) (fa : Option Span) (ea : fa ≡ span_at s 0) (a : Span) (qa : fa ≡ Some a) (line : List ℕ) (el : line ≡ part s 0 a.end) (h : Option Heading) (eh : option_map paper_heading h ≡ heading_of line) where
+  heading_is : line1 (lines_of s) ≡ rule.headed (option_map paper_heading h)
   heading_is = line1_is s 0 fa ea a qa line el ∙ rw eh
 
-  pub top_heading : h ≡ headed.Wrong → (r : Topped) → r ≡ topped.Refused (refusal_for WrongHeading 0) → paper_topped s r ≡ top_of s year month
+  pub top_heading : h ≡ None → (r : Topped) → r ≡ topped.Refused (refusal_for WrongHeading 0) → paper_topped s r ≡ top_of s year month
   unfolding top_of and_then
   top_heading q r e =
-      let w : line1 (lines_of s) ≡ no 3 0 = heading_is ∙ ap (λ (x : Headed). rule.headed (paper_headed x)) q in
+      let w : line1 (lines_of s) ≡ no 3 0 = heading_is ∙ ap (λ (x : Option Heading). rule.headed (option_map paper_heading x)) q in
       rw (e, w)
 
   pub second_within : a.next ≤ length s
   second_within = omega (arith, found_next s 0 fa ea a qa, next_within s 0 (omega arith))
 
-  pub top_second : (g : Heading) → h ≡ headed.Right g → (r : Topped) → paper_topped s r ≡ second_of s year month (lines_on s a.next) (paper_heading g)
+  pub top_second : (g : Heading) → h ≡ Some g → (r : Topped) → paper_topped s r ≡ second_of s year month (lines_on s a.next) (paper_heading g)
       → paper_topped s r ≡ top_of s year month
   unfolding top_of and_then
   top_second g q r e =
-      let first-line : line1 (lines_of s) ≡ ok (paper_heading g) = heading_is ∙ ap (λ (x : Headed). rule.headed (paper_headed x)) q in
+      let first-line : line1 (lines_of s) ≡ ok (paper_heading g) = heading_is ∙ ap (λ (x : Option Heading). rule.headed (option_map paper_heading x)) q in
       let next-lines : lines_after (lines_of s) ≡ lines_on s a.next = later_is s 0 ∙ ap (lines_on s) (sym (found_next s 0 fa ea a qa)) in
       rw (first-line, next-lines) e

@@ -19,13 +19,13 @@ ghost use Rattle.refusal.specs.Answer.{paper_verdict, refusal_for};
 ghost use Rattle.refusal.specs.declared.Reason.TheVariants.{NoSuchSegment};
 
 use calendar::Date;
-use heading::{Headed, Heading, Named, Storm};
+use heading::{Heading, Named, StormId};
 use refusal::{Refusal, Verdict};
 use segments::{Ending, Segment, Segments, Sought};
 
 #[derive(Clone, Copy)]
 enum Stormed {
-    Right(Storm),
+    Right(Option<StormId>),
     Refused(Refusal),
 }
 
@@ -34,11 +34,11 @@ fn read_storm(text: &[u8], from: usize) -> Stormed
     ensures { paper_stormed result ≡ office_storm (from_first is_office (up_to_first closes (lines_on text.now from))) }
 {
     let Some(l) = segments::first(text, from, Sought::OfficeOrClose) else {
-        return Stormed::Right(Storm::None);
+        return Stormed::Right(None);
     };
     let line = lines::part(text, l.start, l.end);
     if segments::closes(line) {
-        return Stormed::Right(Storm::None);
+        return Stormed::Right(None);
     }
     match heading::read_storm(line) {
         Named::Right(storm) => Stormed::Right(storm),
@@ -150,7 +150,7 @@ fn read_top(text: &[u8], year: usize, month: usize) -> Topped
         return top_refused(refusal::WRONG_HEADING, 0);
     };
     let line = lines::part(text, 0, one.end);
-    let Headed::Right(heading) = heading::read_heading(line) else {
+    let Some(heading) = heading::read_heading(line) else {
         return top_refused(refusal::WRONG_HEADING, 0);
     };
     read_second(text, heading, one.next, year, month)
@@ -162,7 +162,7 @@ pub struct Head {
     pub heading: Heading,
     pub identifier: usize,
     pub issue: usize,
-    pub storm: Storm,
+    pub storm: Option<StormId>,
 }
 
 #[derive(Clone, Copy)]

@@ -8,7 +8,7 @@ ghost use Rattle.printing.specs.Asked.{asked_of};
 ghost use Rattle.printing.specs.Paper.{paper_asked};
 
 use bulletin::{Head, Reading};
-use heading::{Basin, Bbb, Storm, StormId};
+use heading::{Basin, Bbb, StormId};
 use refusal::Refusal;
 use segments::Segment;
 use std::io;
@@ -93,10 +93,10 @@ pub fn say_refusal<W: Write>(out: &mut W, r: Refusal) -> io::Result<()> {
     say(out, b"\n")
 }
 
-fn say_bbb<W: Write>(out: &mut W, bbb: Bbb) -> io::Result<()> {
+fn say_bbb<W: Write>(out: &mut W, bbb: Option<Bbb>) -> io::Result<()> {
     match bbb {
-        Bbb::Nothing => say(out, b"-"),
-        Bbb::Code(a, b, c) => {
+        None => say(out, b"-"),
+        Some(Bbb(a, b, c)) => {
             let text = [a, b, c];
             say(out, &text)
         }
@@ -113,10 +113,10 @@ fn say_basin<W: Write>(out: &mut W, basin: Basin) -> io::Result<()> {
     }
 }
 
-fn say_storm<W: Write>(out: &mut W, storm: Storm) -> io::Result<()> {
+fn say_storm<W: Write>(out: &mut W, storm: Option<StormId>) -> io::Result<()> {
     match storm {
-        Storm::None => say(out, b"-"),
-        Storm::Found(id) => {
+        None => say(out, b"-"),
+        Some(id) => {
             let basin = id.basin;
             say_basin(out, basin)?;
             say_two(out, id.number)?;
