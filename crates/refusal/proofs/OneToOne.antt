@@ -41,16 +41,19 @@ refusal_one r s n p =
     λ i. record { reason = q i; place = p i }
 
 -- nor two answers of the code one answer of the paper, if no two of their values are read alike
-pub result_by_one : {A B : Type 0} (f : A → B) → ((a b : A) → f a ≡ f b → a ≡ b) → {x : Answer B} (r s : Result A Refusal) → answer_by f r ≡ x → answer_by f s ≡ x → r ≡ s
-result_by_one f one (Ok v) (Ok w) a b =
+pub result_by_same : {A B : Type 0} (f : A → B) {x : Answer B} (r s : Result A Refusal) → ((a b : A) → r ≡ Ok a → s ≡ Ok b → f a ≡ f b → a ≡ b) → answer_by f r ≡ x → answer_by f s ≡ x → r ≡ s
+result_by_same f (Ok v) (Ok w) one a b =
     let e : f v ≡ f w = cc in
-    ap Ok (one v w e)
-result_by_one f one (Ok v) (Err s) a b = apart cc
-result_by_one f one (Err r) (Ok w) a b = apart cc
-result_by_one f one (Err r) (Err s) a b =
+    ap Ok (one v w refl refl e)
+result_by_same f (Ok v) (Err s) one a b = apart cc
+result_by_same f (Err r) (Ok w) one a b = apart cc
+result_by_same f (Err r) (Err s) one a b =
     let n : number_of r.reason ≡ number_of s.reason = cc in
     let p : r.place ≡ s.place = cc in
     ap Err (refusal_one r s n p)
+
+pub result_by_one : {A B : Type 0} (f : A → B) → ((a b : A) → f a ≡ f b → a ≡ b) → {x : Answer B} (r s : Result A Refusal) → answer_by f r ≡ x → answer_by f s ≡ x → r ≡ s
+result_by_one f one r s a b = result_by_same f r s (λ v w p q. one v w) a b
 
 pub result_one : {A : Type 0} {x : Answer A} (r s : Result A Refusal) → answer_of r ≡ x → answer_of s ≡ x → r ≡ s
 result_one (Ok v) (Ok w) a b = cc
