@@ -5,7 +5,6 @@ ghost use Rattle.std.specs.Prelude.{◌≡◌, ◌<◌, ◌≤◌, length, get_o
 ghost use Rattle.std.specs.Io.KnownBytes.{Appends, Consumes, IsAtEnd};
 ghost use Rattle.lines.specs.Bytes.{digit};
 ghost use Rattle.printing.specs.Asked.{asked_of};
-ghost use Rattle.printing.specs.Paper.{paper_asked};
 
 use bulletin::{Head, Reading};
 use heading::{Basin, Bbb, StormId};
@@ -15,11 +14,11 @@ use std::io;
 use std::io::{Read, Write};
 use writing::Written;
 
-// The year and month that the first line names.
+// The time that a bulletin is read under.
 #[derive(Clone, Copy)]
-pub enum Asked {
-    Month(usize, usize),
-    Wrong,
+pub struct YearMonth {
+    pub year: usize,
+    pub month: usize,
 }
 
 fn is_digit(input: &[u8], k: usize) -> bool
@@ -29,8 +28,8 @@ fn is_digit(input: &[u8], k: usize) -> bool
 }
 
 // The year and month that the first line names.
-pub fn read_asked(input: &[u8]) -> Asked
-    ensures { paper_asked result ≡ asked_of input.now }
+pub fn read_asked(input: &[u8]) -> Option<YearMonth>
+    ensures { result ≡ asked_of input.now }
 {
     let a = is_digit(input, 0);
     let b = is_digit(input, 1);
@@ -41,10 +40,12 @@ pub fn read_asked(input: &[u8]) -> Asked
     let f = is_digit(input, 6);
     let end = lines::byte(input, 7);
     if (a & b & c & d) & (space == 32) & (e & f) & (end == 10) {
-        let year = 100 * codes::two(input, 0) + codes::two(input, 2);
-        return Asked::Month(year, codes::two(input, 5));
+        return Some(YearMonth {
+            year: 100 * codes::two(input, 0) + codes::two(input, 2),
+            month: codes::two(input, 5),
+        });
     }
-    Asked::Wrong
+    None
 }
 
 // Reads until the buffer is full or the input ends, and answers how many bytes it put at the buffer's start.
