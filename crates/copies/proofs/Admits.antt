@@ -4,15 +4,15 @@ use native.Mathlib.Omega.{arith}
 use mathlib.Core.Path.{◌≡◌, refl, sym, ap, ap₂, subst, ◌∙◌}
 use mathlib.Core.List.{List}
 use mathlib.Core.Bool.{Bool, true, false}
-use Rattle.std.specs.Prelude.{Option, None, Some}
+use Rattle.std.specs.Prelude.{Option, None, Some, Ok, Err}
 use lib.ListN.{length, get_or, get_or-eq_default}
 use lib.Dec.{eqb}
 use borrow.Author.Tests.{eqb-true, eqb-false}
 use Rattle.laws.proofs.Tests.{by, by_order, apart}
 use Rattle.refusal.specs.declared.Reason.TheVariants.{WrongLength, NotSound, NoDraft, NoSuchSegment, OutOfRange, NotTaken}
-use Rattle.refusal.specs.Answer.{Answer, ok, no, refused, must, and_then, paper_verdict, paper_refusal}
+use Rattle.refusal.specs.Answer.{Answer, ok, no, refused, must, and_then, answer_of}
+use Rattle.refusal.specs.Numbers.{number_of}
 use Rattle.refusal.specs.declared.Refusal.{Refusal}
-use Rattle.refusal.specs.declared.Verdict.TheVariants.{Accepted, Refused}
 use Rattle.codes.specs.Places.{capacity}
 use Rattle.codes.specs.Block.{Content}
 use Rattle.blocks.specs.Block.{book_length, block_count, number_at, block_of, put_block, Bytes}
@@ -211,11 +211,11 @@ module _ (l : List ℕ) (d s : ℕ) where
     asked_is w n p (working ks stale) true (Some c) ex er eh e = apart cc
 
   -- what the admission refuses
-  pub refused_at_lem : (w : Work) (r : Refusal) → Bytes l → paper_verdict (Refused r) ≡ admission l d (in_range w) s → Same l (paper_refusal r) (on d s w)
+  pub refused_at_lem : (w : Work) (r : Refusal) → Bytes l → answer_of (Err r) ≡ admission l d (in_range w) s → Same l (refused r.reason r.place) (on d s w)
   refused_at_lem w r y e =
       by (eqb (length l) book_length)
       (λ t. by (is_sound l)
-      (λ u. asked_is (base_of l y u) w r.number r.place (draft_at (book_of l).drafts d) (in_range w) (at (book_of l).segments s) refl refl refl
+      (λ u. asked_is (base_of l y u) w (number_of r.reason) r.place (draft_at (book_of l).drafts d) (in_range w) (at (book_of l).segments s) refl refl refl
       (sym (e ∙ sound_asks (in_range w) t u)))
       (λ u. subst (λ (a : BookAnswer). Same l a (on d s w)) (as_answer (sym (e ∙ bad_asks (in_range w) t u))) (bad_is (on d s w) t u)))
       (λ t. subst (λ (a : BookAnswer). Same l a (on d s w)) (as_answer (sym (e ∙ short_asks (in_range w) t))) (short_is (on d s w) t))
@@ -228,7 +228,7 @@ module _ (l : List ℕ) (d s : ℕ) where
   accepted_of (working ks stale) true None e = apart cc
   accepted_of (working ks stale) true (Some c) e = (refl, refl, refl)
 
-  pub admitted_at : (r : Bool) → paper_verdict Accepted ≡ admission l d r s → Admitted l d s
+  pub admitted_at : (r : Bool) → answer_of (Ok tt) ≡ admission l d r s → Admitted l d s
   admitted_at r e =
       by (eqb (length l) book_length)
       (λ t. by (is_sound l)
@@ -243,7 +243,7 @@ module _ (l : List ℕ) (d s : ℕ) where
       (λ u. let f = e ∙ bad_asks r t u in apart cc))
       (λ t. let f = e ∙ short_asks r t in apart cc)
 
-  pub ranged_at : (r : Bool) → paper_verdict Accepted ≡ admission l d r s → r ≡ true
+  pub ranged_at : (r : Bool) → answer_of (Ok tt) ≡ admission l d r s → r ≡ true
   ranged_at r e =
       by (eqb (length l) book_length)
       (λ t. by (is_sound l)
