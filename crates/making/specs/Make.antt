@@ -1,13 +1,12 @@
 -- Document 01, "Steps": make and write.
 use Rattle.std.specs.Prelude.{ℕ, ◌≡◌, List, map, length, eqb}
-use Rattle.std.specs.Prelude.{Option, None, Some}
+use Rattle.std.specs.Prelude.{Option, None, Some, Result}
 use Rattle.refusal.specs.declared.Reason.TheVariants.{WrongLength, NotSound, NoSuchSegment}
-use Rattle.refusal.specs.Answer.{Answer, ok, no, refused, must, and_then, paper_verdict}
-use Rattle.refusal.specs.declared.Verdict.{Verdict}
+use Rattle.refusal.specs.Answer.{Answer, ok, no, refused, must, and_then, answer_of}
+use Rattle.refusal.specs.declared.Refusal.{Refusal}
 use Rattle.codes.specs.Block.{Content}
 use Rattle.lines.specs.declared.End.TheVariants.{CrCrLf}
-use Rattle.writing.specs.Write.{written_block, fitting, length_of, output_of, paper_written}
-use Rattle.writing.specs.declared.Written.{Written}
+use Rattle.writing.specs.Write.{written_block, fitting, length_of, output_of}
 use Rattle.segments.specs.Segments.{Segment}
 use Rattle.bulletin.specs.Bulletin.{Bulletin, read_bulletin}
 use Rattle.blocks.specs.Block.{book_length}
@@ -33,8 +32,8 @@ abbrev pub made_bytes : Answer Book → List ℕ → List ℕ
 made_bytes (ok b) l = bytes_of b
 made_bytes (no number place) l = l
 
-pub record Makes (before after text : List ℕ) (year month : ℕ) (r : Verdict) : Type 0 where
-  pub answer : paper_verdict r ≡ made_answer (make_rule before text year month)
+pub record Makes (before after text : List ℕ) (year month : ℕ) (r : Result Unit Refusal) : Type 0 where
+  pub answer : answer_of r ≡ made_answer (make_rule before text year month)
   pub left : after ≡ made_bytes (make_rule before text year month) before
 
 -- ---- "Write: a segment's block, from the book, into a lent output": 1, 12, "15, then 23 after 12"
@@ -63,6 +62,6 @@ write_on l s room =
     fitting room block
 
 -- the promise: the answer, and the output afterwards
-pub record WritesOn (l before after : List ℕ) (s : ℕ) (r : Written) : Type 0 where
-  pub answer : paper_written r ≡ length_of (write_on l s (length before))
+pub record WritesOn (l before after : List ℕ) (s : ℕ) (r : Result ℕ Refusal) : Type 0 where
+  pub answer : answer_of r ≡ length_of (write_on l s (length before))
   pub output : after ≡ output_of (write_on l s (length before)) before
