@@ -1,12 +1,12 @@
 -- Document 02, R-1: the rule of the call that writes the edited bulletin out.
 use Rattle.std.specs.Prelude.{ℕ, ◌≡◌, List, Bool, ◌&&◌, length, eqb}
-use Rattle.std.specs.Prelude.{Option, None, Some}
+use Rattle.std.specs.Prelude.{Option, None, Some, Result}
 use Rattle.refusal.specs.declared.Reason.TheVariants.{WrongLength, WrongTime, NotSound, NotBelonging}
-use Rattle.refusal.specs.Answer.{Answer, refused, must, and_then}
+use Rattle.refusal.specs.Answer.{Answer, refused, must, and_then, answer_of}
+use Rattle.refusal.specs.declared.Refusal.{Refusal}
 use Rattle.calendar.specs.Calendar.{date_of}
 use Rattle.calendar.specs.declared.Date.{Date}
-use Rattle.writing.specs.Write.{fitting, length_of, output_of, paper_written}
-use Rattle.writing.specs.declared.Written.{Written}
+use Rattle.writing.specs.Write.{fitting, length_of, output_of}
 use Rattle.bulletin.specs.Bulletin.{Bulletin, is_length, read_bulletin}
 use Rattle.blocks.specs.Block.{book_length}
 use Rattle.steps.specs.Book.{Book}
@@ -34,6 +34,6 @@ edited_rule text l room =
     fitting room (edited text r.segments blocks)
 
 -- the promise of the call: the answer, and the output afterwards; "its length is answered and later bytes stay"
-pub record WritesEdited (text l before after : List ℕ) (r : Written) : Type 0 where
-  pub answer : paper_written r ≡ length_of (edited_rule text l (length before))
+pub record WritesEdited (text l before after : List ℕ) (r : Result ℕ Refusal) : Type 0 where
+  pub answer : answer_of r ≡ length_of (edited_rule text l (length before))
   pub output : after ≡ output_of (edited_rule text l (length before)) before
