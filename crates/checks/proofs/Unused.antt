@@ -1,19 +1,21 @@
 -- An unused block: zeros, whose check is 1. Its test, and its seal. Assumes nothing.
 use mathlib.Core.Path.{◌≡◌, refl, sym, ap, ◌∙◌}
-use mathlib.Core.Bool.{Bool, true, false, ◌&&◌, and-true, and-false, and_assoc}
+use mathlib.Core.Bool.{Bool, true, false, ◌&&◌, and-true, and-false}
 use mathlib.Core.List.{List, [], ◌∷◌}
 use Prim.Native.Nat.{ℕ, zero, suc, ◌+◌, ◌*◌, ◌/◌, ◌%◌, ◌-◌, ◌≤◌, ◌<◌}
 use native.Mathlib.Nat.{ne_of_gt}
 use native.Mathlib.Omega.{arith}
-use lib.ListN.{length, get_or, set}
-use lib.Seq.{slice, set-get_or, get_or-set_other}
+use lib.ListN.{length, get_or, set, drop}
+use Rattle.std.specs.List.{slice_range}
+use lib.Seq.{set-get_or, get_or-set_other}
 use lib.Bits.{bit_or}
 use lib.Dec.{eqb}
 use borrow.Author.Tests.{eqb-true, eq-eqb}
 use Rattle.laws.proofs.Tests.{by_order, same_test, and_left, and_right}
 use Rattle.checks.specs.Seal.{block_length, sum_to, check_of, sealed, checked, all_zero}
 use Rattle.checks.specs.Unused.{is_unused}
-use Rattle.checks.proofs.Zeros.{all_zero_at, zero_in, slice_zero, or_zero}
+use Rattle.std.specs.List.{fold}
+use Rattle.checks.proofs.Zeros.{all_zero_at, zero_in, slice_zero, or_zero, zeros_from}
 
 -- ---- the check of zeros
 sum_zero : (n : ℕ) (b : List ℕ) → ((i : ℕ) → i < n → get_or b i 0 ≡ 0) → sum_to n b ≡ 0
@@ -39,7 +41,7 @@ one_in low high =
     let q : high ≡ 0 = eqb-true high 0 (and_right (eqb low 1) (eqb high 0) h) in
     eq-eqb 1 (low + 256 * high) (omega arith))
 
-pub unused_is : (b : List ℕ) (z : Bool) → z ≡ all_zero (slice 0 510 b) → (z && eqb (get_or b 510 0) 1 && eqb (get_or b 511 0) 0) ≡ is_unused b
+pub unused_is : (b : List ℕ) (z : Bool) → z ≡ all_zero (slice_range b 0 510) → (z && eqb (get_or b 510 0) 1 && eqb (get_or b 511 0) 0) ≡ is_unused b
 unfolding is_unused checked
 unused_is b true e =
     let c : check_of b ≡ 1 = check_zero b (λ i h. zero_in 0 510 b (sym e) i (omega arith) h) in
@@ -84,51 +86,36 @@ zero_looked b z i h =
     (λ g. by_order i 448 (λ k. same 384 g (at 6 384 g k))
     (λ g. same 446 (omega arith) (at 7 446 (omega arith) (omega arith)))))))))
 
--- several bytes joined are zero if each is
-joined : ℕ → List ℕ → ℕ
-joined some [] = some
-joined some (x ∷ xs) = joined (bit_or some x) xs
-
-joined_zero : (some : ℕ) (xs : List ℕ) → eqb (joined some xs) 0 ≡ (eqb some 0 && all_zero xs)
-unfolding joined all_zero
-joined_zero some [] = sym (and-true (eqb some 0))
-joined_zero some (x ∷ xs) = joined_zero (bit_or some x) xs ∙ rw or_zero (and_assoc (eqb some 0) (eqb x 0) (all_zero xs))
-
 -- j columns are looked at
 pub record Blank (b : List ℕ) (j some : ℕ) : Type 0 where
-  pub left : j ≤ 64
   pub seen : eqb some 0 ≡ true → (i : ℕ) → i < j → all_zero (looked b i) ≡ true
   pub none : ((i : ℕ) → i < 510 → get_or b i 0 ≡ 0) → eqb some 0 ≡ true
 
-pub blank_start : (b : List ℕ) → Blank b 0 0
-blank_start b = record { left = omega arith; seen = λ e i h. absurd (omega arith); none = λ z. refl }
-
 module _ (b : List ℕ) (j some : ℕ) (v : Blank b j some) where
-  joined_on : j < 64 → Blank b (j + 1) (joined some (looked b j))
-  joined_on h =
-      let all : Bool = all_zero (looked b j) in
-      let e : eqb (joined some (looked b j)) 0 ≡ (eqb some 0 && all) = joined_zero some (looked b j) in
+  joined_more : j < 64 → (all : ℕ) → eqb all 0 ≡ all_zero (looked b j) → Blank b (j + 1) (bit_or some all)
+  joined_more h all e =
+      let zero : Bool = all_zero (looked b j) in
+      let o : eqb (bit_or some all) 0 ≡ (eqb some 0 && zero) = rw (← e) (or_zero some all) in
       record {
-        left = omega arith;
         seen = λ s i k.
-            let both : (eqb some 0 && all) ≡ true = sym e ∙ s in
-            by_order i j (λ r. v.seen (and_left (eqb some 0) all both) i r)
+            let both : (eqb some 0 && zero) ≡ true = sym o ∙ s in
+            by_order i j (λ r. v.seen (and_left (eqb some 0) zero both) i r)
             (λ r. let same : i ≡ j = omega arith in
-            rw same (and_right (eqb some 0) all both));
-        none = λ z. e ∙ rw (v.none z, looked_zero b j z h);
+            rw same (and_right (eqb some 0) zero both));
+        none = λ z. o ∙ rw (v.none z, looked_zero b j z h);
       }
 
-  pub blank_on : j < 64 → Blank b (j + 1)
-      (bit_or (bit_or (bit_or (bit_or (bit_or (bit_or (bit_or (bit_or some (get_or b j 0)) (get_or b (64 + j) 0)) (get_or b (128 + j) 0)) (get_or b (192 + j) 0))
-      (get_or b (256 + j) 0)) (get_or b (320 + j) 0)) (get_or b (384 + j) 0)) (get_or b (446 + j) 0))
-  unfolding joined looked
-  blank_on h = joined_on h
+  pub blank_more : j < 64 → Blank b (j + 1)
+      (bit_or some (bit_or (bit_or (bit_or (bit_or (bit_or (bit_or (bit_or (get_or b j 0) (get_or b (64 + j) 0)) (get_or b (128 + j) 0)) (get_or b (192 + j) 0))
+      (get_or b (256 + j) 0)) (get_or b (320 + j) 0)) (get_or b (384 + j) 0)) (get_or b (446 + j) 0)))
+  unfolding looked all_zero
+  blank_more h = joined_more h (fold bit_or (get_or b j 0) (drop 1 (looked b j))) (zeros_from (drop 1 (looked b j)) (get_or b j 0))
 
-  pub blank_done : length b ≡ block_length → 64 ≤ j → eqb some 0 ≡ all_zero (slice 0 510 b)
-  blank_done l h =
-      same_test (eqb some 0) (all_zero (slice 0 510 b))
-      (λ e. slice_zero 0 510 b (omega arith) (λ i p q. zero_looked b (λ k g. v.seen e k (omega arith)) i q))
-      (λ e. v.none (λ i q. zero_in 0 510 b e i (omega arith) q))
+pub blank_all : (b : List ℕ) (j some : ℕ) → Blank b j some → 64 ≤ j → length b ≡ block_length → eqb some 0 ≡ all_zero (slice_range b 0 510)
+blank_all b j some v h l =
+    same_test (eqb some 0) (all_zero (slice_range b 0 510))
+    (λ e. slice_zero 0 510 b (omega arith) (λ i p q. zero_looked b (λ k g. v.seen e k (omega arith)) i q))
+    (λ e. v.none (λ i q. zero_in 0 510 b e i (omega arith) q))
 
 -- ---- the seal of zeros
 pub sealed_zero : (b : List ℕ) → ((i : ℕ) → i < 512 → get_or b i 0 ≡ 0) → sealed b ≡ set b 510 1

@@ -1,15 +1,15 @@
 -- Zeros: the test and each byte, the scan of a part, a list filled with zeros. Assumes nothing.
 use mathlib.Core.Path.{◌≡◌, refl, sym, ap, ◌∙◌}
 use mathlib.Core.Bool.{true, ◌&&◌, and-true, and_assoc}
-use mathlib.Core.List.{List, [], ◌∷◌, ◌++◌, append-nil}
+use mathlib.Core.List.{List, [], ◌∷◌}
 use Prim.Native.Nat.{ℕ, zero, suc, ◌+◌, ◌-◌, ◌≤◌, ◌<◌}
-use native.Mathlib.Numerals.{add-one}
 use native.Mathlib.Omega.{arith}
 use lib.Bits.{bit_or, bit_and, or_add_and, and_le_l, and_le_r}
-use lib.ListN.{length, take, drop, get_or, set, replicate, length-replicate, get_or-replicate, length-set}
-use lib.Seq.{slice, slice-cons, slice_empty, length-slice, get_or-take, get_or-drop, ext_get_or, drop-length}
+use lib.ListN.{length, drop, length-take, get_or, replicate, length-replicate, get_or-replicate}
+use Rattle.std.specs.List.{slice_range}
+use lib.Seq.{get_or-take, get_or-drop, ext_get_or}
 use lib.Dec.{eqb}
-use borrow.Author.Fill.{fill_more}
+use Rattle.std.specs.List.{fold}
 use borrow.Author.Tests.{eqb-true, eq-eqb}
 use Rattle.laws.proofs.Tests.{by_order, same_test, and_left, and_right}
 use Rattle.checks.specs.Seal.{all_zero}
@@ -28,25 +28,25 @@ all_zero_of [] z = refl
 all_zero_of (x ∷ xs) z = rw (eq-eqb x 0 (z 0 (omega arith))) (all_zero_of xs (λ i h. z (suc i) (omega arith)))
 
 -- the test of a part, and each of its bytes
-pub zero_in : (f t : ℕ) (l : List ℕ) → all_zero (slice f t l) ≡ true → (i : ℕ) → f ≤ i → i < t → get_or l i 0 ≡ 0
+pub zero_in : (f t : ℕ) (l : List ℕ) → all_zero (slice_range l f t) ≡ true → (i : ℕ) → f ≤ i → i < t → get_or l i 0 ≡ 0
 zero_in f t l h i g k =
     let e : f + (i - f) ≡ i = omega arith in
-    sym (get_or-take t l i 0 k) ∙ ap (λ (j : ℕ). get_or (take t l) j 0) (sym e) ∙ sym (get_or-drop f (take t l) (i - f) 0) ∙ all_zero_at (slice f t l) h (i - f)
+    ap (λ (j : ℕ). get_or l j 0) (sym e) ∙ sym (get_or-take (t - f) (drop f l) (i - f) 0 (omega arith) ∙ get_or-drop f l (i - f) 0)
+    ∙ all_zero_at (slice_range l f t) h (i - f)
 
-pub slice_zero : (f t : ℕ) (l : List ℕ) → t ≤ length l → ((i : ℕ) → f ≤ i → i < t → get_or l i 0 ≡ 0) → all_zero (slice f t l) ≡ true
+pub slice_zero : (f t : ℕ) (l : List ℕ) → t ≤ length l → ((i : ℕ) → f ≤ i → i < t → get_or l i 0 ≡ 0) → all_zero (slice_range l f t) ≡ true
 slice_zero f t l k z =
-    all_zero_of (slice f t l)
-    (λ i h. let n = length-slice f t l k in
-    let g : f + i < t = omega arith in
-    get_or-drop f (take t l) i 0 ∙ get_or-take t l (f + i) 0 g ∙ z (f + i) (omega arith) g)
+    all_zero_of (slice_range l f t)
+    (λ i h. let g : i < t - f = omega (arith, length-take {A = ℕ}) in
+    get_or-take (t - f) (drop f l) i 0 g ∙ get_or-drop f l i 0 ∙ z (f + i) (omega arith) (omega arith))
 
 -- a part is zeros if both its parts are, which may have bytes in common
 pub zero_join : (f n m t : ℕ) (l : List ℕ) → f ≤ n → n ≤ m → m ≤ t → t ≤ length l
-    → (all_zero (slice f m l) && all_zero (slice n t l)) ≡ all_zero (slice f t l)
+    → (all_zero (slice_range l f m) && all_zero (slice_range l n t)) ≡ all_zero (slice_range l f t)
 zero_join f n m t l h j k w =
-    let front = all_zero (slice f m l) in
-    let back = all_zero (slice n t l) in
-    same_test (front && back) (all_zero (slice f t l))
+    let front = all_zero (slice_range l f m) in
+    let back = all_zero (slice_range l n t) in
+    same_test (front && back) (all_zero (slice_range l f t))
     (λ e. slice_zero f t l w
     (λ i p q. by_order i m (λ r. zero_in f m l (and_left front back e) i p r) (λ r. zero_in n t l (and_right front back e) i (omega arith) q)))
     (λ e. let z : (i : ℕ) → f ≤ i → i < t → get_or l i 0 ≡ 0 = zero_in f t l e in
@@ -57,14 +57,7 @@ pub zeros_ext : (m : ℕ) (l : List ℕ) → length l ≡ m → ((i : ℕ) → i
 zeros_ext m l e h =
     ext_get_or 0 l (replicate m 0) (e ∙ sym (length-replicate m 0)) (λ i k. let g : i < m = omega arith in h i g ∙ sym (get_or-replicate m i 0 0 g))
 
--- ---- zeros: the answer for the whole part is that for the bytes before i, and from i on
-pub record Zeros (b : List ℕ) (from to i some : ℕ) : Type 0 where
-  pub left : i ≤ to
-  pub rest : all_zero (slice from to b) ≡ (eqb some 0 && all_zero (slice i to b))
-
-pub zeros_start : (b : List ℕ) (from to : ℕ) → from ≤ to → Zeros b from to from 0
-zeros_start b from to h = record { left = h; rest = refl }
-
+-- ---- the scan of a list
 -- no bit is set in either of two numbers
 pub or_zero : (x y : ℕ) → eqb (bit_or x y) 0 ≡ (eqb x 0 && eqb y 0)
 or_zero x y =
@@ -79,41 +72,11 @@ or_zero x y =
     let q : y ≡ 0 = eqb-true y 0 (and_right (eqb x 0) (eqb y 0) h) in
     eq-eqb (bit_or x y) 0 (omega arith))
 
-module _ (b : List ℕ) (from to i some : ℕ) (v : Zeros b from to i some) where
-  pub zeros_done : to ≤ i → eqb some 0 ≡ all_zero (slice from to b)
-  unfolding all_zero
-  zeros_done h =
-      let e : i ≡ to = omega (arith, v.left) in
-      sym (v.rest ∙ ap (λ (j : ℕ). eqb some 0 && all_zero (slice j to b)) e ∙ ap (λ (l : List ℕ). eqb some 0 && all_zero l) (slice_empty to b) ∙ and-true (eqb some 0))
+-- several bytes joined are zero if each is
+pub zeros_from : (l : List ℕ) (some : ℕ) → eqb (fold bit_or some l) 0 ≡ (eqb some 0 && all_zero l)
+unfolding all_zero
+zeros_from [] some = sym (and-true (eqb some 0))
+zeros_from (x ∷ xs) some = zeros_from xs (bit_or some x) ∙ rw or_zero (and_assoc (eqb some 0) (eqb x 0) (all_zero xs))
 
-  pub zeros_on : to ≤ length b → i < to → Zeros b from to (i + 1) (bit_or some (get_or b i 0))
-  unfolding all_zero
-  zeros_on k h =
-      record {
-        left = omega arith;
-        rest =
-            v.rest
-            ∙ ap (λ (l : List ℕ). eqb some 0 && all_zero l) (slice-cons i to b 0 h k)
-            ∙ sym (and_assoc (eqb some 0) (eqb (get_or b i 0) 0) (all_zero (slice (suc i) to b)))
-            ∙ rw (or_zero some (get_or b i 0), add-one);
-      }
-
--- ---- zeros: i bytes are zero
-pub record Cleared (b₀ b : List ℕ) (i : ℕ) : Type 0 where
-  pub left : i ≤ length b₀
-  pub long : length b ≡ length b₀
-  pub bytes : b ≡ replicate i 0 ++ drop i b₀
-
-pub cleared_start : (b : List ℕ) → Cleared b b 0
-cleared_start b = record { left = omega arith; long = refl; bytes = refl }
-
-module _ (b₀ b : List ℕ) (i : ℕ) (v : Cleared b₀ b i) where
-  pub cleared_on : i < length b → Cleared b₀ (set b i 0) (i + 1)
-  cleared_on h =
-      let e : length b ≡ length b₀ = v.long in
-      record { left = omega arith; long = simp length-set v.long; bytes = ap (λ (l : List ℕ). set l i 0) v.bytes ∙ fill_more i 0 b₀ (omega arith) }
-
-  pub cleared_done : length b ≤ i → b ≡ replicate (length b₀) 0
-  cleared_done h =
-      let e : i ≡ length b₀ = omega (arith, v.left, v.long) in
-      v.bytes ∙ ap (λ (n : ℕ). replicate n 0 ++ drop n b₀) e ∙ ap (λ (l : List ℕ). replicate (length b₀) 0 ++ l) (drop-length b₀) ∙ append-nil _
+pub zeros_joined : (l : List ℕ) → eqb (fold bit_or 0 l) 0 ≡ all_zero l
+zeros_joined l = zeros_from l 0

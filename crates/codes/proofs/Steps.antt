@@ -7,15 +7,13 @@ use mathlib.Core.Bool.{Bool, true, false, ◌&&◌}
 use Rattle.std.specs.Prelude.{Option, None, Some}
 use lib.ListN.{length, get_or, drop, length-drop, drop_of_length-le}
 use lib.Seq.{drop_at, take-suc, get_or-drop, length-take-le}
-use lib.Dec.{eqb, leb}
+use lib.Dec.{eqb}
 use borrow.Author.Tests.{eq-eqb, ne_eqb, le-leb, lt-leb, eqb-true, eqb-false}
 use Rattle.laws.proofs.Tests.{by, by_order, apart, either_way}
 use Rattle.lines.specs.Bytes.{lf, word, begins, exactly}
-use Rattle.lines.specs.Lines.{pieces, end_bytes, body_of, prefix_form}
-use Rattle.lines.specs.Spans.{part, end_at}
+use Rattle.lines.specs.Lines.{pieces, body_of, prefix_form}
+use Rattle.lines.specs.Spans.{part}
 use Rattle.lines.specs.Lines.{ends_line}
-use Rattle.lines.specs.declared.End.{End}
-use Rattle.lines.proofs.Scans.{ended_here, not_ended}
 use Rattle.lines.proofs.Ends.{no_end_lem, past_end_lem, end_some, none_size, end_bytes_lem, first_piece, pieces_first, next_of, next_last, next_here, next_within, next_on, lines_step, lines_last, InLine, in_start, in_on, body_at_lem}
 use Rattle.codes.specs.Places.{prefix_of, three_of}
 use Rattle.codes.specs.Elements.{single_form, range_form, purge_form, is_range, numbers, short, said, Element, dash, null, elements_at, elements_of_body, elements_of_lines, elements_from}
@@ -189,19 +187,6 @@ past_within s after h =
 
 past_more : (s : List ℕ) (after : ℕ) → after ≤ past_end s after
 past_more s after = omega arith
-
-module _ (s : List ℕ) (after : ℕ) (f : End) (ef : f ≡ end_at (drop after s)) (t : Bool) (et : t ≡ ends_line f) where
-  pub past_length : (k : ℕ) → k ≡ length (end_bytes f) → after + k ≡ past_end s after
-  past_length k ek = rw (ek, ef)
-
-  pub past_none : t ≡ false → after ≡ past_end s after
-  past_none n = sym (stays s after (not_ended s after f ef t et n))
-
-  pub last_ended : t ≡ true → true ≡ last_of_line s after
-  last_ended y = rw (ended_here s after f ef t et y)
-
-  pub last_none : t ≡ false → leb (length s) after ≡ last_of_line s after
-  last_none n = rw (not_ended s after f ef t et n)
 
 first_place : (at stop : ℕ) (B : List ℕ) (es : List Element) → next_place stop (elements_of_body at B ++ es) ≡ at
 unfolding elements_at

@@ -260,24 +260,14 @@ fn read_usual(text: &[u8], at: usize, p: usize) -> Option<Covered>
 fn past_end(text: &[u8], after: usize) -> usize
     ensures { result ≡ past_end text.now after }
 {
-    let end = lines::find_ending(text, after);
-    let ended = lines::is_ended(end);
-    if ended {
-        return after + lines::end_length(end);
-    }
-    after
+    after + lines::find_ending(text, after).length()
 }
 
 // Whether an element that runs up to `after` is the last of its line.
 fn is_last(text: &[u8], after: usize) -> bool
     ensures { result ≡ last_of_line text.now after }
 {
-    let end = lines::find_ending(text, after);
-    let ended = lines::is_ended(end);
-    if ended {
-        return true;
-    }
-    text.len() <= after
+    lines::find_ending(text, after).is_ended() || text.len() <= after
 }
 
 // The step over `DDHHMM-`, which stands at `at`. It must be in its ranges, and the last of its line.

@@ -1,166 +1,133 @@
 -- Line 1 and line 2, by their bytes: one law for each way out of the code. Assumes nothing.
 use Rattle.std.specs.Prelude.{None, Some, option_map}
-use Prim.Native.Nat.{ℕ, suc, ◌+◌, ◌-◌, ◌≤◌, ◌<◌}
+use Prim.Native.Nat.{ℕ, zero, suc, ◌-◌, ◌≤◌, ◌<◌, suc-le-suc}
 use native.Mathlib.Omega.{arith}
-use Prim.Native.String.{String}
 use mathlib.Core.Path.{◌≡◌, refl, sym, ap, ◌∙◌}
 use mathlib.Core.List.{List, [], ◌∷◌, ◌++◌}
-use mathlib.Core.Bool.{Bool, true, false, ◌&&◌, ◌||◌, and-true, and-false, and_assoc}
-use lib.ListN.{length, get_or, drop, drop_of_length-le}
-use lib.Seq.{drop-cons, drop-drop}
+use mathlib.Core.Bool.{Bool, true, false, cond, ◌&&◌, ◌||◌, and-true, and-false, and_assoc}
+use lib.ListN.{length, get_or, take, drop, length-drop}
+use lib.Seq.{drop-drop, take_all}
 use lib.Dec.{eqb}
-use borrow.Author.Tests.{lt-leb, eqb-true}
+use Rattle.std.proofs.lemmas.List.{nil_from_length}
+use borrow.Author.Tests.{ne_eqb}
 use Rattle.codes.proofs.Forms.{at_byte}
-use Rattle.laws.proofs.Tests.{apart, and_left, and_right}
-use Rattle.lines.specs.Bytes.{between, capital, digit, word, begins, exactly}
-use Rattle.lines.proofs.Strings.{begins_is, begins_append, exactly_is}
+use Rattle.laws.proofs.Tests.{by, apart, impossible, and_right}
+use Rattle.std.specs.List.{list_all}
+use Rattle.lines.specs.Bytes.{Kind, capital, digit, word, begins, exactly}
+use Rattle.lines.proofs.Strings.{begins_append, exactly_is}
 use Rattle.calendar.specs.Calendar.{is_time}
 use Rattle.codes.specs.Places.{two_of}
 use Rattle.codes.specs.Elements.{stamp_of}
-use Rattle.heading.specs.Heading.{times, heading_form, amendment, amended_form, is_heading, heading_of, capital_or_digit, identifier_form, is_identifier}
-use Rattle.heading.specs.Paper.{bbb_form, is_amended, paper_heading}
+use Rattle.heading.specs.Heading.{times, heading_form, is_heading, bbb_after, heading_of, is_identifier}
+use Rattle.heading.specs.Paper.{bbb_form, is_amendment, paper_bbb}
+use Rattle.heading.specs.declared.Bbb.{Bbb}
+use Rattle.std.specs.Prelude.{Option}
 
--- ---- bytes of one kind: the answer from byte j on is the answer from the start
-pub record Ran (s : List ℕ) (k n low high j : ℕ) : Type 0 where
-  pub most : j ≤ n
-  pub same : begins (times n (between low high)) (drop k s) ≡ begins (times (n - j) (between low high)) (drop (k + j) s)
+-- ---- bytes of one kind, as std tests them
+run_all : (k : Kind) (n : ℕ) (t : List ℕ) → n ≤ length t → list_all k (take n t) ≡ begins (times n k) t
+unfolding begins
+run_all k zero t h = refl
+run_all k (suc n) [] h = impossible (omega arith)
+run_all k (suc n) (b ∷ t) h = ap (λ (x : Bool). k b && x) (run_all k n t (omega arith))
 
-pub ran_start : (s : List ℕ) (k n low high : ℕ) → Ran s k n low high 0
-ran_start s k n low high = let a : n - 0 ≡ n = omega arith in let b : k + 0 ≡ k = omega arith in record { most = omega arith; same = rw (a, b) }
+pub run_in : (s : List ℕ) (from to : ℕ) (k : Kind) (p : List ℕ) → p ≡ take (to - from) (drop from s) → to ≤ length s → list_all k p ≡ begins (times (to - from) k) (drop from s)
+run_in s from to k p e l = ap (list_all k) e ∙ run_all k (to - from) (drop from s) (omega (arith, length-drop from s))
 
-module _ (s : List ℕ) (k n low high j : ℕ) (v : Ran s k n low high j) where
-  pub ran_done : n ≤ j → true ≡ begins (times n (between low high)) (drop k s)
-  unfolding begins
-  ran_done h = let z : n - j ≡ 0 = omega arith in sym (v.same ∙ rw z)
+run_no : (k : Kind) (n : ℕ) (t : List ℕ) → length t < n → false ≡ begins (times n k) t
+unfolding begins
+run_no k zero t h = impossible (omega arith)
+run_no k (suc n) [] h = refl
+run_no k (suc n) (b ∷ t) h = rw (← run_no k n t (omega arith)) (sym (and-false (k b)))
 
-  module _ (pos : 0 < low) (h : j < n) (b : ℕ) (eb : b ≡ get_or s (k + j) 0) (t : Bool) (et : t ≡ between low high b) where
-    one : begins (times (n - j) (between low high)) (drop (k + j) s) ≡ (t && begins (times (n - (j + 1)) (between low high)) (drop (k + (j + 1)) s))
-    one =
-        let z : n - j ≡ suc (n - (j + 1)) = omega arith in
-        let y : k + (j + 1) ≡ k + j + 1 = omega arith in
-        let no0 : between low high 0 ≡ false = rw (lt-leb low 0 pos) in
-        rw (z, y, et, eb, ← drop-drop 1 (k + j) s)
-        (begins_append (between low high ∷ []) (times (n - (j + 1)) (between low high)) (drop (k + j) s)
-        ∙ ap (λ (x : Bool). x && begins (times (n - (j + 1)) (between low high)) (drop 1 (drop (k + j) s)))
-        (begins_is (between low high ∷ []) s (k + j) (no0, tt) ∙ and-true (between low high (get_or s (k + j) 0))))
-
-    pub ran_on : t ≡ true → Ran s k n low high (j + 1)
-    ran_on y = record { most = omega arith; same = v.same ∙ one ∙ rw y }
-
-    pub ran_no : t ≡ false → false ≡ begins (times n (between low high)) (drop k s)
-    ran_no y = sym (v.same ∙ one ∙ rw y)
+pub run_short : (s : List ℕ) (from to : ℕ) (k : Kind) → from < to → length s < to → false ≡ begins (times (to - from) k) (drop from s)
+run_short s from to k h l = run_no k (to - from) (drop from s) (omega (arith, length-drop from s))
 
 -- ---- `TTAAii CCCC DDHHMM`
-pub headed_by : (s : List ℕ) (a b d f : Bool) (c e : ℕ)
-    → a ≡ begins (times 4 capital) (drop 0 s) → b ≡ begins (times 2 digit) (drop 4 s) → c ≡ get_or s 6 0
-    → d ≡ begins (times 4 capital) (drop 7 s) → e ≡ get_or s 11 0 → f ≡ begins (times 6 digit) (drop 12 s)
-    → (a && b && eqb c 32 && d && eqb e 32 && f) ≡ begins heading_form s
-headed_by s a b d f c e ea eb ec ed ee ef =
-    rw (ea, eb, ec, ed, ee, ef)
-    (sym
-    (simp (begins_append (times 4 capital) (times 2 digit ++ (word " " ++ (times 4 capital ++ (word " " ++ times 6 digit)))) s, begins_append (times 2 digit) (word " " ++ (times 4 capital ++ (word " " ++ times 6 digit))) (drop 4 s), begins_append (word " ") (times 4 capital ++ (word " " ++ times 6 digit)) (drop 6 s), begins_append (times 4 capital) (word " " ++ times 6 digit) (drop 7 s), begins_append (word " ") (times 6 digit) (drop 11 s), drop-drop, at_byte s 6 32 refl, at_byte s 11 32 refl, and_assoc)))
+pub headed_is : (s : List ℕ) → begins heading_form s ≡
+    (begins (times 4 capital) s && begins (times 2 digit) (drop 4 s) && eqb (get_or s 6 0) 32
+    && begins (times 4 capital) (drop 7 s) && eqb (get_or s 11 0) 32 && begins (times 6 digit) (drop 12 s))
+headed_is s =
+    simp (begins_append (times 4 capital) (times 2 digit ++ (word " " ++ (times 4 capital ++ (word " " ++ times 6 digit)))) s, begins_append (times 2 digit) (word " " ++ (times 4 capital ++ (word " " ++ times 6 digit))) (drop 4 s), begins_append (word " ") (times 4 capital ++ (word " " ++ times 6 digit)) (drop 6 s), begins_append (times 4 capital) (word " " ++ times 6 digit) (drop 7 s), begins_append (word " ") (times 6 digit) (drop 11 s), drop-drop, at_byte s 6 32 refl, at_byte s 11 32 refl, and_assoc)
 
--- ---- BBB: the space and the last byte are the same in all three forms
-spread : (w z a b c d e f : Bool)
-    → (w && (a && b || c && d || e && f) && z)
-    ≡ (w && (a && (b && (z && true))) || w && (c && (d && (z && true))) || w && (e && (f && (z && true))))
-spread false z a b c d e f = refl
-spread true true a b c d e f = simp and-true
-spread true false a b c d e f = simp and-false
+-- ---- line 1
+exactly_append : (js ks : List Kind) (s : List ℕ) → exactly (js ++ ks) s ≡ (begins js s && exactly ks (drop (length js) s))
+unfolding begins exactly
+exactly_append [] ks s = refl
+exactly_append (j ∷ js) ks [] = refl
+exactly_append (j ∷ js) ks (b ∷ s) = ap (λ (t : Bool). j b && t) (exactly_append js ks s) ∙ sym (and_assoc (j b) _ _)
 
-pub amended_by : (s : List ℕ) (w a b c : ℕ) → w ≡ get_or s 18 0 → a ≡ get_or s 19 0 → b ≡ get_or s 20 0 → c ≡ get_or s 21 0
-    → (t : Bool) → t ≡ between 65 88 c
-    → (eqb w 32 && (eqb a 65 && eqb b 65 || eqb a 67 && eqb b 67 || eqb a 82 && eqb b 82) && (t || eqb c 90)) ≡ is_amended (drop 18 s)
-unfolding is_amended
-amended_by s w a b c ew ea eb ec t et =
-    rw (et, ew, ea, eb, ec)
-    (spread (eqb (get_or s 18 0) 32) (amendment (get_or s 21 0)) (eqb (get_or s 19 0) 65) (eqb (get_or s 20 0) 65) (eqb (get_or s 19 0) 67) (eqb (get_or s 20 0) 67) (eqb (get_or s 19 0) 82) (eqb (get_or s 20 0) 82)
-    ∙ sym
-    (simp (begins_is (bbb_form "AA") s 18 (refl, (refl, (refl, (refl, tt)))), begins_is (bbb_form "CC") s 18 (refl, (refl, (refl, (refl, tt)))), begins_is (bbb_form "RR") s 18 (refl, (refl, (refl, (refl, tt)))))))
-
--- ---- line 1: without BBB, or with it
-gather : (x p q a b c : Bool) → (x || p && (q && a) || p && (q && b) || p && (q && c)) ≡ (x || p && (q && (a || b || c)))
-gather true p q a b c = refl
-gather false false q a b c = refl
-gather false true false a b c = refl
-gather false true true a b c = refl
+gather : (h a b c d : Bool) → (h && a || h && b || h && c || h && d) ≡ (h && (a || (b || c || d)))
+gather true false b c d = refl
+gather true true b c d = refl
+gather false a b c d = refl
 
 module _ (s : List ℕ) where
-  amended_is : (pair : String) → length (amended_form pair) ≡ 22 → exactly (amended_form pair) s ≡ (eqb (length s) 22 && (begins heading_form s && begins (bbb_form pair) (drop 18 s)))
-  amended_is pair e = exactly_is (amended_form pair) s ∙ rw (e, begins_append heading_form (bbb_form pair) s)
-
-  form_is : is_heading s ≡ ((eqb (length s) 18 && begins heading_form s || eqb (length s) 22 && (begins heading_form s && is_amended (drop 18 s))) && is_time (stamp_of (drop 12 s)))
-  unfolding is_heading is_amended
+  form_is : is_heading s ≡ (begins heading_form s && (exactly [] (drop 18 s) || is_amendment (drop 18 s)) && is_time (stamp_of (drop 12 s)))
+  unfolding is_heading is_amendment
   form_is =
-      rw (exactly_is heading_form s, amended_is "AA" refl, amended_is "CC" refl, amended_is "RR" refl)
-      (ap (λ (t : Bool). t && is_time (stamp_of (drop 12 s)))
-      (gather (eqb (length s) 18 && begins heading_form s) (eqb (length s) 22) (begins heading_form s) (begins (bbb_form "AA") (drop 18 s)) (begins (bbb_form "CC") (drop 18 s)) (begins (bbb_form "RR") (drop 18 s))))
+      let e : exactly heading_form s ≡ (begins heading_form s && exactly [] (drop 18 s)) = exactly_append heading_form [] s in
+      rw (e, exactly_append heading_form (bbb_form "AA") s, exactly_append heading_form (bbb_form "CC") s, exactly_append heading_form (bbb_form "RR") s)
+      (ap (λ (t : Bool). t && is_time (stamp_of (drop 12 s))) (gather (begins heading_form s) (exactly [] (drop 18 s)) (exactly (bbb_form "AA") (drop 18 s)) (exactly (bbb_form "CC") (drop 18 s)) (exactly (bbb_form "RR") (drop 18 s))))
 
-  -- the space and the bytes of BBB
-  rest_is : length s ≡ 22 → drop 18 s ≡ get_or s 18 0 ∷ get_or s 19 0 ∷ get_or s 20 0 ∷ get_or s 21 0 ∷ []
-  rest_is n = rw (drop-cons s 18 0 (omega (arith, n)), drop-cons s 19 0 (omega (arith, n)), drop-cons s 20 0 (omega (arith, n)), drop-cons s 21 0 (omega (arith, n)), drop_of_length-le s {i = 22} (omega (arith, n)))
+begins_long : (ks : List Kind) (s : List ℕ) → begins ks s ≡ true → length ks ≤ length s
+unfolding begins
+begins_long [] s e = omega arith
+begins_long (k ∷ ks) [] e = apart cc
+begins_long (k ∷ ks) (b ∷ s) e = suc-le-suc (begins_long ks s (and_right (k b) (begins ks s) e))
 
-first : (x y t : Bool) → (x && t) ≡ true → ((x || y) && t) ≡ true
-first true y t e = e
-first false y t e = apart cc
+-- what is not empty
+not_empty : (r : List ℕ) → 1 ≤ length r → exactly [] r ≡ false
+unfolding exactly
+not_empty [] l = impossible (omega arith)
+not_empty (b ∷ r) l = refl
 
-second : (x y t : Bool) → (y && t) ≡ true → ((x || y) && t) ≡ true
-second true y t e = and_right y t e
-second false y t e = e
+something : (r : List ℕ) → 1 ≤ length r → ◌≡◌ {A = Option (List ℕ)} None (bbb_after r) → ⊥
+something [] l e = omega arith
+something (b ∷ r) l e = cc
 
-neither : (x y t : Bool) → (x && t) ≡ false → (y && t) ≡ false → ((x || y) && t) ≡ false
-neither true y t e f = e
-neither false y t e f = f
+pub headed_long : (s : List ℕ) → begins heading_form s ≡ true → 18 ≤ length s
+headed_long s e = begins_long heading_form s e
 
-module _ (s : List ℕ) (h : Bool) (d o m : ℕ) (t : Bool) (eh : h ≡ begins heading_form s) (ed : d ≡ two_of (drop 12 s)) (eo : o ≡ two_of (drop 14 s)) (em : m ≡ two_of (drop 16 s))
-    (et : t ≡ is_time (record { day = d; hour = o; minute = m })) where
-  stamp : record { day = d; hour = o; minute = m } ≡ stamp_of (drop 12 s)
-  stamp =
+module _ (s : List ℕ) (h : Bool) (eh : h ≡ begins heading_form s) (d o m : ℕ) (ed : d ≡ two_of (drop 12 s)) (eo : o ≡ two_of (drop 14 s)) (em : m ≡ two_of (drop 16 s)) where
+  stamp_is : record { day = d; hour = o; minute = m } ≡ stamp_of (drop 12 s)
+  stamp_is =
       let p : o ≡ two_of (drop 2 (drop 12 s)) = rw drop-drop eo in
       let q : m ≡ two_of (drop 4 (drop 12 s)) = rw drop-drop em in
       λ i. record { day = ed i; hour = p i; minute = q i }
 
-  whole : (a : Bool) → a ≡ is_amended (drop 18 s) → (u : Bool) → ((eqb (length s) 18 && h || eqb (length s) 22 && (h && a)) && t) ≡ u → is_heading s ≡ u
-  whole a ea u e = form_is s ∙ rw (← stamp, ← et, ← ea, ← eh) e
-
-  pub heading_plain : (eqb (length s) 18 && h && t) ≡ true → option_map paper_heading (Some (record { stamp = record { day = d; hour = o; minute = m }; bbb = None })) ≡ heading_of s
+  pub heading_bare : h ≡ false → None ≡ heading_of s
   unfolding heading_of
-  heading_plain e =
-      let n : length s ≡ 18 = eqb-true (length s) 18 (and_left (eqb (length s) 18) h (and_left (eqb (length s) 18 && h) t e)) in
-      let b : drop 18 s ≡ [] = drop_of_length-le s {i = 18} (omega (arith, n)) in
-      rw (whole (is_amended (drop 18 s)) refl true (first (eqb (length s) 18 && h) (eqb (length s) 22 && (h && is_amended (drop 18 s))) t e), ← stamp, b)
+  heading_bare n = rw (form_is s, ← eh, n)
 
-  module _ (e : (eqb (length s) 18 && h && t) ≡ false) (a : Bool) (ea : a ≡ is_amended (drop 18 s)) where
-    pub heading_amended : (x y z : ℕ) → x ≡ get_or s 19 0 → y ≡ get_or s 20 0 → z ≡ get_or s 21 0 → (eqb (length s) 22 && (h && a) && t) ≡ true
-        → option_map paper_heading (Some (record { stamp = record { day = d; hour = o; minute = m }; bbb = Some (record { 0 = x; 1 = y; 2 = z }) })) ≡ heading_of s
+  module _ (t : Bool) (et : t ≡ is_time (record { day = d; hour = o; minute = m })) where
+    pub heading_untimed : t ≡ false → None ≡ heading_of s
     unfolding heading_of
-    heading_amended x y z ex ey ez f =
-        let n : length s ≡ 22 = eqb-true (length s) 22 (and_left (eqb (length s) 22) (h && a) (and_left (eqb (length s) 22 && (h && a)) t f)) in
-        rw (whole a ea true (second (eqb (length s) 18 && h) (eqb (length s) 22 && (h && a)) t f), ← stamp, rest_is s n, ex, ey, ez)
+    heading_untimed n = rw (form_is s, ← stamp_is, ← et, n, and-false)
 
-    pub heading_wrong : (eqb (length s) 22 && (h && a) && t) ≡ false → option_map paper_heading None ≡ heading_of s
-    unfolding heading_of
-    heading_wrong f = rw (whole a ea false (neither (eqb (length s) 18 && h) (eqb (length s) 22 && (h && a)) t e f))
+    module _ (y : h ≡ true) (z : t ≡ true) (r : List ℕ) (er : r ≡ take (length s - 18) (drop 18 s)) where
+      there : drop 18 s ≡ r
+      there = sym (er ∙ take_all (length s - 18) (drop 18 s) (omega (arith, length-drop 18 s)))
 
--- ---- line 2: the first four bytes are the same in all three forms
-pub name_by : (s : List ℕ) (k b : ℕ) → b ≡ get_or s k 0 → (x y : Bool) → x ≡ capital b → y ≡ digit b → (x || y) ≡ capital_or_digit (get_or s k 0)
-name_by s k b eb x y p q = rw (p, q, eb)
+      with_rest : (u : Bool) → (exactly [] r || is_amendment r) ≡ u → heading_of s ≡ cond u (Some (record { stamp = record { day = d; hour = o; minute = m }; bbb = bbb_after r })) None
+      unfolding heading_of
+      with_rest u e = rw (form_is s, ← stamp_is, ← et, z, ← eh, y, there, e, and-true)
 
-ends : (n a b c d e f x y : Bool)
-    → (n && (a && b && c && d && (e && f || e && y || x && y)))
-    ≡ (n && (a && (b && (c && (d && (e && (f && true)))))) || n && (a && (b && (c && (d && (e && (y && true)))))) || n && (a && (b && (c && (d && (x && (y && true)))))))
-ends false a b c d e f x y = refl
-ends true false b c d e f x y = refl
-ends true true false c d e f x y = refl
-ends true true true false d e f x y = refl
-ends true true true true false e f x y = refl
-ends true true true true true e f x y = simp and-true
+      pub heading_plain : length r < 1 → Some (record { stamp = record { day = d; hour = o; minute = m }; bbb = None }) ≡ heading_of s
+      unfolding exactly
+      heading_plain l = let e : r ≡ [] = nil_from_length r (omega arith) in rw (with_rest true (rw e), e)
 
-module _ (s : List ℕ) (a b c d e f : Bool) (x y : ℕ)
-    (ea : a ≡ capital_or_digit (get_or s 0 0)) (eb : b ≡ capital_or_digit (get_or s 1 0)) (ec : c ≡ capital_or_digit (get_or s 2 0)) (ed : d ≡ capital_or_digit (get_or s 3 0))
-    (ee : e ≡ capital_or_digit (get_or s 4 0)) (ef : f ≡ capital_or_digit (get_or s 5 0)) (ex : x ≡ get_or s 4 0) (ey : y ≡ get_or s 5 0) where
-  pub identifier_by : (eqb (length s) 6 && (a && b && c && d && (e && f || e && eqb y 32 || eqb x 32 && eqb y 32))) ≡ is_identifier s
-  unfolding is_identifier
-  identifier_by =
-      ends (eqb (length s) 6) a b c d e f (eqb x 32) (eqb y 32)
-      ∙ sym (simp (exactly_is, begins_is (identifier_form (times 2 capital_or_digit)) s 0 (refl, (refl, (refl, (refl, (refl, (refl, tt)))))), begins_is (identifier_form (capital_or_digit ∷ word " ")) s 0 (refl, (refl, (refl, (refl, (refl, (refl, tt)))))), begins_is (identifier_form (word "  ")) s 0 (refl, (refl, (refl, (refl, (refl, (refl, tt)))))), ea, eb, ec, ed, ee, ef, ex, ey))
+      module _ (l : 1 ≤ length r) (x : Option Bbb) (ex : option_map paper_bbb x ≡ cond (is_amendment r) (bbb_after r) None) where
+        pub heading_wrong : x ≡ None → None ≡ heading_of s
+        heading_wrong n =
+            by (is_amendment r) (λ p. impossible (something r l (rw (n, p) at ex)))
+            (λ p. rw (with_rest false (rw (not_empty r l) p)))
+
+        pub heading_amended : (b : List ℕ) → option_map paper_bbb x ≡ Some b → Some (record { stamp = record { day = d; hour = o; minute = m }; bbb = Some b }) ≡ heading_of s
+        heading_amended b e =
+            by (is_amendment r) (λ p. let e' : Some b ≡ bbb_after r = rw (e, p) at ex in rw (with_rest true (rw (not_empty r l) p), ← e'))
+            (λ p. let z : Some b ≡ None = rw (e, p) at ex in apart cc)
+
+-- ---- line 2
+pub identifier_long : (s : List ℕ) → 7 ≤ length s → false ≡ is_identifier s
+unfolding is_identifier
+identifier_long s h = simp (exactly_is, ne_eqb (length s) 6 (λ e. omega arith))

@@ -2,7 +2,7 @@
 use Rattle.std.specs.Prelude.{ℕ, List, [], ◌∷◌, ◌++◌, Bool, ◌||◌}
 use Rattle.std.specs.Prelude.{None, Some, option_map}
 use Prim.Native.String.{String}
-use Rattle.lines.specs.Bytes.{Kind, bytes, word, begins}
+use Rattle.lines.specs.Bytes.{Kind, bytes, word, exactly}
 use Rattle.heading.specs.Heading as heading
 use Rattle.heading.specs.Storm.{ClassName, cyclone, internal, training, disturbance, StormName, StormSaid, no_storm, storm, refused_storm}
 use Rattle.heading.specs.declared.Bbb.{Bbb}
@@ -16,12 +16,12 @@ use Rattle.heading.specs.declared.Named.{Named}
 use Rattle.heading.specs.declared.Named.TheVariants as named
 
 -- ---- line 1
--- a space and BBB in front
+-- a space and BBB, and nothing more
 abbrev pub bbb_form : String → List Kind
 bbb_form pair = word " " ++ (word pair ++ (heading.amendment ∷ []))
 
-unfoldable pub is_amended : List ℕ → Bool
-is_amended s = begins (bbb_form "AA") s || begins (bbb_form "CC") s || begins (bbb_form "RR") s
+unfoldable pub is_amendment : List ℕ → Bool
+is_amendment s = exactly (bbb_form "AA") s || exactly (bbb_form "CC") s || exactly (bbb_form "RR") s
 
 abbrev pub paper_bbb : Bbb → List ℕ
 paper_bbb b = b.0 ∷ b.1 ∷ b.2 ∷ []

@@ -1,11 +1,11 @@
 // Line 1, line 2 and the office line of a bulletin: document 01, "Text and lines".
 #![tactic(auto)]
 
-ghost use Rattle.std.specs.Prelude.{◌≡◌, option_map, ◌-◌, ◌≤◌, ◌<◌, length, get_or, drop};
+ghost use Rattle.std.specs.Prelude.{◌≡◌, if◌then◌else◌, option_map, ◌-◌, ◌≤◌, ◌<◌, length, get_or, drop};
 ghost use Rattle.lines.specs.Bytes.{between, begins};
-ghost use Rattle.heading.specs.Heading.{times, heading_form, heading_of, capital_or_digit, is_identifier};
+ghost use Rattle.heading.specs.Heading.{times, heading_form, bbb_after, heading_of, capital_or_digit, is_identifier};
 ghost use Rattle.heading.specs.Storm.{is_office, names_storm, basin_of, class_of, storm_spelled, storm_of};
-ghost use Rattle.heading.specs.Paper.{is_amended, paper_heading, paper_basin, paper_class, paper_named};
+ghost use Rattle.heading.specs.Paper.{is_amendment, paper_bbb, paper_heading, paper_basin, paper_class, paper_named};
 
 use calendar::Stamp;
 
@@ -50,179 +50,127 @@ pub enum Named {
     Wrong,
 }
 
-fn between(low: u8, high: u8, b: u8) -> bool
-    ensures { result ≡ between low high b }
+// Whether the line's bytes from one place up to another are all from `low` to `high`.
+fn run(line: &[u8], from: usize, to: usize, low: u8, high: u8) -> bool
+    requires { from < to }
+    ensures { result ≡ begins (times (to - from) (between low high)) (drop from line.now) }
 {
-    (low <= b) & (b <= high)
-}
-
-// Whether n bytes from `low` to `high` stand from byte k on.
-fn run(line: &[u8], k: usize, n: usize, low: u8, high: u8) -> bool
-    requires { (k ≤ 132) × (n ≤ 132) × (0 < low) }
-    ensures { result ≡ begins (times n (between low high)) (drop k line.now) }
-{
-    let mut j: usize = 0;
-    while j < n {
-        let b = lines::byte(line, k + j);
-        if between(low, high, b) {
-            j += 1;
-        } else {
-            return false;
-        }
-    }
-    true
+    let Some(part) = line.get(from..to) else {
+        return false;
+    };
+    part.iter().all(|b| low <= *b && *b <= high)
 }
 
 // Whether `TTAAii CCCC DDHHMM` stands in front.
+#[tactic(auto, using(crate::proofs::Forms::headed_is))]
 fn is_headed(line: &[u8]) -> bool
     ensures { result ≡ begins heading_form line.now }
 {
-    let letters = run(line, 0, 4, 65, 90);
-    let number = run(line, 4, 2, 48, 57);
-    let first = lines::byte(line, 6);
-    let office = run(line, 7, 4, 65, 90);
-    let second = lines::byte(line, 11);
-    let time = run(line, 12, 6, 48, 57);
-    letters & number & (first == 32) & office & (second == 32) & time
+    run(line, 0, 4, b'A', b'Z')
+        && run(line, 4, 6, b'0', b'9')
+        && lines::byte(line, 6) == b' '
+        && run(line, 7, 11, b'A', b'Z')
+        && lines::byte(line, 11) == b' '
+        && run(line, 12, 18, b'0', b'9')
 }
 
-// Whether a space and BBB stand from byte 18 on.
-fn is_amended(line: &[u8]) -> bool
-    ensures { result ≡ is_amended (drop 18 line.now) }
+// BBB, if a space and BBB are what stands behind DDHHMM: AA, CC or RR, and then A..X or Z.
+#[tactic(auto, unfolding(crate::specs::Paper::is_amendment, lines::specs::Bytes::exactly))]
+fn amendment(rest: &[u8]) -> Option<Bbb>
+    ensures { option_map paper_bbb result ≡ (if is_amendment rest.now then bbb_after rest.now else None) }
 {
-    let space = lines::byte(line, 18);
-    let a = lines::byte(line, 19);
-    let b = lines::byte(line, 20);
-    let c = lines::byte(line, 21);
-    let pair = ((a == 65) & (b == 65)) | ((a == 67) & (b == 67)) | ((a == 82) & (b == 82));
-    (space == 32) & pair & (between(65, 88, c) | (c == 90))
+    let [b' ', a @ (b'A' | b'C' | b'R'), b, c @ (b'A'..=b'X' | b'Z')] = *rest else {
+        return None;
+    };
+    (a == b).then_some(Bbb(a, b, c))
 }
 
-// Line 1, without its end.
+// Line 1, without its end: behind DDHHMM nothing follows, or a space and BBB.
+#[tactic(auto, using(crate::proofs::Forms::headed_long))]
 pub fn read_heading(line: &[u8]) -> Option<Heading>
     ensures { option_map paper_heading result ≡ heading_of line.now }
 {
-    let n = line.len();
-    let headed = is_headed(line);
     let stamp = Stamp {
         day: codes::two(line, 12),
         hour: codes::two(line, 14),
         minute: codes::two(line, 16),
     };
-    let time = calendar::is_time(stamp);
-    if (n == 18) & headed & time {
-        return Some(Heading {
-            stamp,
-            bbb: None,
-        });
+    if !is_headed(line) || !calendar::is_time(stamp) {
+        return None;
     }
-    let amended = is_amended(line);
-    let a = lines::byte(line, 19);
-    let b = lines::byte(line, 20);
-    let c = lines::byte(line, 21);
-    if (n == 22) & (headed & amended) & time {
-        return Some(Heading {
-            stamp,
-            bbb: Some(Bbb(a, b, c)),
-        });
-    }
-    None
+    let bbb = match &line[18..] {
+        [] => None,
+        rest => Some(amendment(rest)?),
+    };
+    Some(Heading { stamp, bbb })
 }
 
-// Whether byte k is a capital or a digit.
-fn is_name(line: &[u8], k: usize) -> bool
-    ensures { result ≡ capital_or_digit (get_or line.now k 0) }
+fn is_name(b: u8) -> bool
+    ensures { result ≡ capital_or_digit b }
 {
-    let b = lines::byte(line, k);
-    lines::capital(b) | lines::digit(b)
+    b.is_ascii_uppercase() || b.is_ascii_digit()
 }
 
 // Line 2.
+#[tactic(auto, using(crate::proofs::Forms::identifier_long), unfolding(crate::specs::Heading::is_identifier, lines::specs::Bytes::exactly))]
 pub fn is_identifier(line: &[u8]) -> bool
     ensures { result ≡ is_identifier line.now }
 {
-    let n = line.len();
-    let a = is_name(line, 0);
-    let b = is_name(line, 1);
-    let c = is_name(line, 2);
-    let d = is_name(line, 3);
-    let e = is_name(line, 4);
-    let f = is_name(line, 5);
-    let x = lines::byte(line, 4);
-    let y = lines::byte(line, 5);
-    let end = (e & f) | (e & (y == 32)) | ((x == 32) & (y == 32));
-    (n == 6) & (a & b & c & d & end)
+    let [a, b, c, d, e, f] = *line else {
+        return false;
+    };
+    let end = is_name(e) && (is_name(f) || f == b' ') || e == b' ' && f == b' ';
+    is_name(a) && is_name(b) && is_name(c) && is_name(d) && end
 }
 
+#[tactic(auto, unfolding(crate::specs::Storm::is_office))]
 pub fn is_office(line: &[u8]) -> bool
     ensures { result ≡ is_office line.now }
 {
-    let long = lines::begins_with(line, b"NATIONAL WEATHER SERVICE ");
-    let short = lines::begins_with(line, b"NWS ");
-    long | short
+    lines::begins_with(line, b"NATIONAL WEATHER SERVICE ") || lines::begins_with(line, b"NWS ")
 }
 
 // The last k bytes, as far as the line has them.
 fn last(line: &[u8], k: usize) -> &[u8]
     ensures { result.now ≡ drop (length line.now - k) line.now }
 {
-    let n = line.len();
-    if n < k {
-        lines::part(line, 0, n)
-    } else {
-        lines::part(line, n - k, n)
-    }
+    &line[line.len().saturating_sub(k)..]
 }
 
 // Whether the line's last bytes are a space, two capitals and six digits.
+#[tactic(auto, using(crate::proofs::Storms::names_is))]
 fn names_storm(line: &[u8]) -> bool
     ensures { result ≡ names_storm line.now }
 {
     let e = last(line, 9);
-    let n = e.len();
-    let space = lines::byte(e, 0);
-    let capitals = run(e, 1, 2, 65, 90);
-    let digits = run(e, 3, 6, 48, 57);
-    (n == 9) & ((space == 32) & capitals & digits)
+    e.len() == 9 && e[0] == b' ' && run(e, 1, 3, b'A', b'Z') && run(e, 3, 9, b'0', b'9')
 }
 
+#[tactic(auto, unfolding(crate::specs::Storm::basin_of, lines::specs::Bytes::begins))]
 fn basin_of(e: &[u8]) -> Option<Basin>
     ensures { option_map paper_basin result ≡ basin_of e.now }
 {
-    if lines::begins_with(e, b"AL") {
-        return Some(Basin::Al);
+    match e.first_chunk() {
+        Some(b"AL") => Some(Basin::Al),
+        Some(b"SL") => Some(Basin::Sl),
+        Some(b"EP") => Some(Basin::Ep),
+        Some(b"CP") => Some(Basin::Cp),
+        Some(b"WP") => Some(Basin::Wp),
+        _ => None,
     }
-    if lines::begins_with(e, b"SL") {
-        return Some(Basin::Sl);
-    }
-    if lines::begins_with(e, b"EP") {
-        return Some(Basin::Ep);
-    }
-    if lines::begins_with(e, b"CP") {
-        return Some(Basin::Cp);
-    }
-    if lines::begins_with(e, b"WP") {
-        return Some(Basin::Wp);
-    }
-    None
 }
 
+#[tactic(auto, unfolding(crate::specs::Storm::class_of))]
 fn class_of(n: usize) -> Option<Class>
     ensures { option_map paper_class result ≡ class_of n }
 {
-    if (1 <= n) & (n <= 49) {
-        return Some(Class::Cyclone);
+    match n {
+        1..=49 => Some(Class::Cyclone),
+        50..=79 => Some(Class::Internal),
+        80..=89 => Some(Class::Training),
+        90..=99 => Some(Class::Disturbance),
+        _ => None,
     }
-    if (50 <= n) & (n <= 79) {
-        return Some(Class::Internal);
-    }
-    if (80 <= n) & (n <= 89) {
-        return Some(Class::Training);
-    }
-    if (90 <= n) & (n <= 99) {
-        return Some(Class::Disturbance);
-    }
-    None
 }
 
 // The storm that eight bytes name.

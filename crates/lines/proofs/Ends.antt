@@ -36,24 +36,6 @@ no_end_lem s i a ea h = simp (ending_is, ← ea, ne_eqb a 10 (omega arith), ne_e
 pub past_end_lem : (s : List ℕ) (i : ℕ) → length s ≤ i → Nothing ≡ end_at (drop i s)
 past_end_lem s i h = simp (ending_is, get_or-eq_default s 0 h)
 
-module _ (s : List ℕ) (i a b c : ℕ) (ea : a ≡ get_or s i 0) (eb : b ≡ get_or s (i + 1) 0) (ec : c ≡ get_or s (i + 2) 0) where
-  third : c ≡ get_or s (i + 1 + 1) 0
-  third = let e : i + 1 + 1 ≡ i + 2 = omega arith in rw e ec
-
-  pub end_1 : a ≡ 10 → Lf ≡ end_at (drop i s)
-  end_1 h = simp (ending_is, ← ea, h)
-
-  module _ (h : a ≡ 10 → ⊥) where
-    pub end_2 : (eqb a 13 && eqb b 10) ≡ true → CrLf ≡ end_at (drop i s)
-    end_2 k = simp (ending_is, ← ea, ← eb, ← third, ne_eqb a 10 h, k)
-
-    module _ (k : (eqb a 13 && eqb b 10) ≡ false) where
-      pub end_3 : (eqb a 13 && eqb b 13 && eqb c 10) ≡ true → CrCrLf ≡ end_at (drop i s)
-      end_3 m = simp (ending_is, ← ea, ← eb, ← third, ne_eqb a 10 h, k, m)
-
-      pub end_4 : (eqb a 13 && eqb b 13 && eqb c 10) ≡ false → Nothing ≡ end_at (drop i s)
-      end_4 m = simp (ending_is, ← ea, ← eb, ← third, ne_eqb a 10 h, k, m)
-
 -- whether one stands there
 abbrev pub end_some : List ℕ → Bool
 end_some u = ends_line (end_at u)
@@ -230,10 +212,6 @@ body_take : (t : List ℕ) → take (length (body_of (first_piece lf t))) t ≡ 
 unfolding body_of first_piece
 body_take [] = refl
 body_take (b ∷ t) = rw (body_first b t) (by (ends_line (end_at (b ∷ t))) (λ p. rw p) (λ p. rw p (ap (λ (r : List ℕ). b ∷ r) (body_take t))))
-
-pub end_within : (s : List ℕ) (at : ℕ) → at ≤ length s → end_of s at ≤ length s
-unfolding end_of
-end_within s at h = omega (arith, body_length (drop at s), length-drop at s)
 
 pub next_within : (s : List ℕ) (at : ℕ) → at ≤ length s → next_of s at ≤ length s
 unfolding next_of

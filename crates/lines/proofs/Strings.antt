@@ -1,13 +1,15 @@
 -- Strings of kinds, seen from a place. Past the end 0 is read, which no kind of a string may allow. Assumes nothing.
-use Prim.Native.Nat.{ℕ, zero, suc, ◌+◌, ◌≤◌, ◌<◌}
+use Prim.Native.Nat.{ℕ, zero, suc, ◌+◌}
 use native.Mathlib.Numerals.{add-one}
 use native.Mathlib.Omega.{arith}
-use mathlib.Core.Path.{◌≡◌, refl, sym, ap, ◌∙◌}
+use mathlib.Core.Path.{◌≡◌, refl, sym, ap, ap₂, ◌∙◌}
 use mathlib.Core.List.{List, [], ◌∷◌, ◌++◌}
 use mathlib.Core.Bool.{Bool, true, false, ◌&&◌, and-false, and_assoc}
-use lib.ListN.{length, get_or, drop, drop_of_length-le}
-use lib.Seq.{drop-cons}
+use lib.ListN.{length, get_or, drop}
 use lib.Dec.{eqb}
+use Rattle.std.specs.Prelude.{nat_eq}
+use Rattle.std.specs.List.{starts_with}
+use Rattle.std.proofs.lemmas.Bool.Decides.{nat_tests}
 use borrow.Author.Tests.{eq-eqb, ne_eqb, eqb-true, eqb-false}
 use Rattle.laws.proofs.Tests.{by}
 use Rattle.lines.specs.Bytes.{Kind, literally, begins, exactly}
@@ -57,33 +59,12 @@ exactly_is [] (b ∷ s) = rw (ne_eqb (suc (length s)) 0 (omega arith))
 exactly_is (k ∷ ks) [] = rw (ne_eqb 0 (suc (length ks)) (omega arith))
 exactly_is (k ∷ ks) (b ∷ s) = rw (exactly_is ks s, eqb_suc) (swap (k b) (eqb (length s) (length ks)) (begins ks s))
 
--- ---- fixed bytes, compared one after the other
-pub record Same (line w : List ℕ) (k : ℕ) : Type 0 where
-  pub low : k ≤ length w
-  pub fits : length w ≤ length line
-  pub same : begins (literally w) line ≡ begins (literally (drop k w)) (drop k line)
+-- ---- fixed bytes: as std compares them
+eqb_swap : (a b : ℕ) → eqb a b ≡ eqb b a
+eqb_swap a b = grind (arith, nat_tests)
 
-pub same_start : (line w : List ℕ) → length w ≤ length line → Same line w 0
-same_start line w h = record { low = omega arith; fits = h; same = refl }
-
-pub same_short : (line w : List ℕ) → length line < length w → false ≡ begins (literally w) line
+pub starts_is : (w s : List ℕ) → starts_with nat_eq s w ≡ begins (literally w) s
 unfolding begins
-same_short line [] h = let no' : ⊥ = omega arith in absurd no'
-same_short [] (c ∷ w) h = refl
-same_short (b ∷ line) (c ∷ w) h = rw (← same_short line w (omega arith), and-false)
-
-module _ (line w : List ℕ) (k : ℕ) (v : Same line w k) where
-  module _ (h : k < length w) where
-    step : begins (literally (drop k w)) (drop k line) ≡ (eqb (get_or line k 0) (get_or w k 0) && begins (literally (drop (k + 1) w)) (drop (k + 1) line))
-    unfolding begins
-    step = rw (add-one, drop-cons w k 0 h, drop-cons line k 0 (omega (arith, v.fits)))
-
-    pub same_on : get_or line k 0 ≡ get_or w k 0 → Same line w (k + 1)
-    same_on e = record { low = omega arith; fits = v.fits; same = v.same ∙ step ∙ rw (eq-eqb _ _ e) }
-
-    pub same_no : (get_or line k 0 ≡ get_or w k 0 → ⊥) → false ≡ begins (literally w) line
-    same_no e = sym (v.same ∙ step ∙ rw (ne_eqb _ _ e))
-
-  pub same_done : length w ≤ k → true ≡ begins (literally w) line
-  unfolding begins
-  same_done h = sym (v.same ∙ rw (drop_of_length-le w h))
+starts_is [] s = refl
+starts_is (c ∷ w) [] = refl
+starts_is (c ∷ w) (b ∷ s) = ap₂ ◌&&◌ (eqb_swap c b) (starts_is w s)

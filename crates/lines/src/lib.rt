@@ -8,7 +8,7 @@ ghost use Rattle.lines.specs.Lines.{end_bytes, blank, is_end, opens};
 ghost use Rattle.lines.specs.Check.{check_text};
 ghost use Rattle.lines.specs.Spans.{span_at, part, end_at};
 ghost use Rattle.lines.specs.Lines.{ends_line};
-ghost use Rattle.lines.specs.Printables.{printables, Passed, Ambled};
+ghost use Rattle.lines.specs.Printables.{printables};
 
 use refusal::{Reason, Refusal};
 
@@ -22,7 +22,7 @@ pub struct Span {
 }
 
 // How a line ended; Nothing is that of a last line that does not end.
-#[derive(Clone, Copy)]
+#[derive(Clone, Copy, PartialEq, Eq)]
 pub enum End {
     Lf,
     CrLf,
@@ -30,161 +30,114 @@ pub enum End {
     Nothing,
 }
 
+impl End {
+    // How many bytes it has.
+    pub fn length(self) -> usize
+        ensures is { result ≡ length (end_bytes self) }
+        ensures most { result ≤ 3 }
+    {
+        match self {
+            End::Lf => 1,
+            End::CrLf => 2,
+            End::CrCrLf => 3,
+            End::Nothing => 0,
+        }
+    }
+
+    // Whether it is one of the three.
+    pub fn is_ended(self) -> bool
+        ensures { result ≡ ends_line self }
+    {
+        self != End::Nothing
+    }
+}
+
 pub fn capital(b: u8) -> bool
     ensures { result ≡ capital b }
 {
-    (65 <= b) & (b <= 90)
+    b.is_ascii_uppercase()
 }
 
 pub fn digit(b: u8) -> bool
     ensures { result ≡ digit b }
 {
-    (48 <= b) & (b <= 57)
+    b.is_ascii_digit()
 }
 
 fn printable(b: u8) -> bool
     ensures { result ≡ between 32 126 b }
 {
-    (32 <= b) & (b <= 126)
+    matches!(b, b' '..=b'~')
 }
 
 // The byte at i, or 0 past the end.
 pub fn byte(s: &[u8], i: usize) -> u8
     ensures { result ≡ get_or s.now i 0 }
 {
-    if i < s.len() { s[i] } else { 0 }
+    s.get(i).copied().unwrap_or(0)
 }
 
 // The bytes from one place up to another, as far as the text has them.
 pub fn part(text: &[u8], from: usize, to: usize) -> &[u8]
     ensures { result.now ≡ part text.now from to }
 {
-    let n = text.len();
-    if to <= from {
-        return &text[0..0];
-    }
-    if n <= from {
-        return &text[0..0];
-    }
-    if n < to {
-        return &text[from..n];
-    }
-    &text[from..to]
+    text.get(from..to.min(text.len())).unwrap_or(&[])
 }
 
 // The line's end that stands at i: LF, CR LF, CR CR LF, or none.
+#[tactic(auto, unfolding(crate::specs::Spans::end_at, crate::specs::Bytes::begins))]
 pub fn find_ending(text: &[u8], i: usize) -> End
     ensures { result ≡ end_at (drop i text.now) }
 {
-    let a = byte(text, i);
-    // Most bytes of a text end no line.
-    if 13 < a {
-        return End::Nothing;
-    }
-    if text.len() <= i {
-        return End::Nothing;
-    }
-    let b = byte(text, i + 1);
-    let c = byte(text, i + 2);
-    if a == 10 {
-        return End::Lf;
-    }
-    if (a == 13) & (b == 10) {
-        return End::CrLf;
-    }
-    if (a == 13) & (b == 13) & (c == 10) {
-        return End::CrCrLf;
-    }
-    End::Nothing
-}
-
-// How many bytes it has.
-pub fn end_length(end: End) -> usize
-    ensures is { result ≡ length (end_bytes end) }
-    ensures most { result ≤ 3 }
-{
-    match end {
-        End::Lf => 1,
-        End::CrLf => 2,
-        End::CrCrLf => 3,
-        End::Nothing => 0,
+    match text.get(i..).unwrap_or(&[]) {
+        [b'\n', ..] => End::Lf,
+        [b'\r', b'\n', ..] => End::CrLf,
+        [b'\r', b'\r', b'\n', ..] => End::CrCrLf,
+        _ => End::Nothing,
     }
 }
 
-// Whether it is one of the three.
-pub fn is_ended(end: End) -> bool
-    ensures { result ≡ ends_line end }
+// How many of the bytes at the front are printable, looked at one by one.
+fn printables_singly(bytes: &[u8]) -> usize
+    ensures { result ≡ printables bytes.now }
 {
-    match end {
-        End::Lf => true,
-        End::CrLf => true,
-        End::CrCrLf => true,
-        End::Nothing => false,
-    }
+    bytes.iter().take_while(|b| printable(**b)).count()
 }
 
-fn lesser(a: u8, b: u8) -> u8
-    ensures { result ≡ min a b }
+// The same of sixty-four bytes. None of them ends the loop, so that they are looked at together, a vector at a time. The compiler unrolls a loop
+// over sixteen or thirty-two, and makes a chain of tests of it.
+fn printables_in_block(block: &[u8; 64]) -> u8
+    ensures { result ≡ printables block.now }
 {
-    if b < a { b } else { a }
-}
-
-// Where the byte at k of sixty-four ends the printable ones: at k, or behind all of them if it is printable itself.
-fn ends_at(k: u8, good: bool) -> u8
-    ensures { result ≡ cond good 64 k }
-{
-    if good { 64 } else { k }
-}
-
-// How many of the sixty-four bytes from i on are printable before one is not. None of them ends the loop, so that they are looked at together,
-// a vector at a time. The compiler unrolls a loop over sixteen or thirty-two, and makes a chain of tests of it.
-fn leading_printables(text: &[u8], i: usize) -> u8
-    requires { i + 64 ≤ length text.now }
-    ensures { result ≡ min 64 (printables (drop i text.now)) }
-{
-    let mut first: u8 = 64;
-    let mut k: u8 = 0;
-    while k < 64 {
-        let good = printable(text[i + k as usize]);
-        first = lesser(first, ends_at(k, good));
-        k += 1;
+    let mut first = 64;
+    for k in 0..64 {
+        let end = if printable(block[k as usize]) { 64 } else { k };
+        first = first.min(end);
     }
     first
 }
 
-// Moves on from `at` over printable bytes, sixty-four at a time: up to one that is not, or to where fewer are left of the text.
-fn stride(text: &[u8], at: usize) -> usize
-    requires { at ≤ length text.now }
-    ensures { Passed text.now at result }
+// How many of the bytes at the front are printable. The first four are looked at one by one: short lines end there, and sixty-four bytes would be
+// looked at for nothing.
+#[tactic(auto, using(crate::proofs::Scans::most, crate::proofs::Scans::printables_take))]
+fn printables(bytes: &[u8]) -> usize
+    ensures is { result ≡ printables bytes.now }
+    ensures most { result ≤ length bytes.now }
 {
-    let n = text.len();
-    let mut i = at;
-    while i + 64 <= n {
-        let k = leading_printables(text, i);
+    let near = printables_singly(&bytes[..bytes.len().min(4)]);
+    if near < 4 {
+        return near;
+    }
+    let (blocks, rest) = bytes[4..].as_chunks();
+    let mut passed = 4;
+    for block in blocks {
+        let k = printables_in_block(block);
         if k < 64 {
-            return i + k as usize;
+            return passed + k as usize;
         }
-        i += 64;
+        passed += 64;
     }
-    i
-}
-
-// Moves on from `at` over at most four printable bytes, one by one: short lines end there, and sixty-four bytes would be looked at for nothing.
-fn amble(text: &[u8], at: usize) -> usize
-    requires { at ≤ length text.now }
-    ensures { Ambled text.now at result }
-{
-    let n = text.len();
-    let mut i = at;
-    while (i < n) & (i < at + 4) {
-        let good = printable(text[i]);
-        if good {
-            i += 1;
-        } else {
-            return i;
-        }
-    }
-    i
+    passed + printables_singly(rest)
 }
 
 // The first place from `at` on whose byte is not printable, or the text's end.
@@ -193,22 +146,7 @@ fn printable_end(text: &[u8], at: usize) -> usize
     ensures is { result ≡ at + printables (drop at text.now) }
     ensures most { result ≤ length text.now }
 {
-    let n = text.len();
-    let near = amble(text, at);
-    if near < at + 4 {
-        return near;
-    }
-    let mut i = stride(text, near);
-    // At most the text's last sixty-three bytes are left to look at, one by one, and else a byte that is not printable.
-    while i < n {
-        let good = printable(text[i]);
-        if good {
-            i += 1;
-        } else {
-            return i;
-        }
-    }
-    i
+    at + printables(&text[at..])
 }
 
 fn line(start: usize, end: usize, next: usize, ended: End) -> Option<Span>
@@ -237,9 +175,8 @@ pub fn find_line(text: &[u8], at: usize) -> Option<Span>
             return line(at, end, end, End::Nothing);
         }
         let ended = find_ending(text, end);
-        let found = is_ended(ended);
-        if found {
-            return line(at, end, end + end_length(ended), ended);
+        if ended.is_ended() {
+            return line(at, end, end + ended.length(), ended);
         }
         // A byte that is not printable and ends no line: the line goes on behind it.
         from = end + 1;
@@ -249,78 +186,51 @@ pub fn find_line(text: &[u8], at: usize) -> Option<Span>
 pub fn is_blank(line: &[u8]) -> bool
     ensures { result ≡ blank line.now }
 {
-    let mut i = 0;
-    while i < line.len() {
-        if line[i] != 32 {
-            return false;
-        }
-        i += 1;
-    }
-    true
+    line.iter().all(|b| *b == b' ')
 }
 
 // Whether the line begins with these bytes.
 pub fn begins_with(line: &[u8], word: &[u8]) -> bool
     ensures { result ≡ begins (literally word.now) line.now }
 {
-    if line.len() < word.len() {
-        return false;
-    }
-    let mut k = 0;
-    while k < word.len() {
-        if line[k] != word[k] {
-            return false;
-        }
-        k += 1;
-    }
-    true
+    line.starts_with(word)
 }
 
 // Whether the line is exactly `$$`.
+#[tactic(auto, unfolding(crate::specs::Lines::is_end, crate::specs::Bytes::exactly))]
 pub fn is_end(line: &[u8]) -> bool
     ensures { result ≡ is_end line.now }
 {
-    if line.len() == 2 {
-        return begins_with(line, b"$$");
-    }
-    false
+    matches!(line, b"$$")
 }
 
 // Whether the line opens a place code block.
+#[tactic(auto, unfolding(crate::specs::Lines::opens, crate::specs::Bytes::begins))]
 pub fn opens_block(line: &[u8]) -> bool
     ensures { result ≡ opens line.now }
 {
-    let s = byte(line, 0);
-    let t = byte(line, 1);
-    let f = byte(line, 2);
-    let x = byte(line, 3);
-    let y = byte(line, 4);
-    let z = byte(line, 5);
-    let m = byte(line, 6);
-    let prefix = capital(s) & capital(t) & ((f == 67) | (f == 90));
-    let three = digit(x) & digit(y) & digit(z);
-    let all = (x == 65) & (y == 76) & (z == 76);
-    prefix & (three | all) & ((m == 45) | (m == 62))
+    let [s, t, b'C' | b'Z', x, y, z, b'-' | b'>', ..] = *line else {
+        return false;
+    };
+    let three_digits = digit(x) && digit(y) && digit(z);
+    capital(s) && capital(t) && (three_digits || [x, y, z] == *b"ALL")
 }
 
 // Refusal 2, line by line: at most 132 printable bytes, and behind them the line's end.
 pub fn check_text(text: &[u8]) -> Result<(), Refusal>
     ensures { answer_of result ≡ check_text text.now }
 {
-    let n = text.len();
-    let mut start: usize = 0;
-    while start < n {
+    let mut start = 0;
+    while start < text.len() {
         let end = printable_end(text, start);
         if 132 < end - start {
             return Err(Reason::WrongText.at(start + 132));
         }
         let ended = find_ending(text, end);
-        let found = is_ended(ended);
-        if found {
-            start = end + end_length(ended);
-        } else {
+        if !ended.is_ended() {
             return Err(Reason::WrongText.at(end));
         }
+        start = end + ended.length();
     }
     Ok(())
 }

@@ -1,29 +1,15 @@
 -- How long a month is: the code's expression is the table. Assumes nothing.
-use Prim.Native.Nat.{ℕ, ◌+◌, ◌-◌, ◌*◌, ◌/◌, ◌%◌, ◌≤◌}
+use Prim.Native.Nat.{ℕ, ◌+◌, ◌-◌, ◌*◌, ◌/◌, ◌%◌}
 use native.Mathlib.Omega.{arith}
 use mathlib.Core.Path.{◌≡◌}
 use mathlib.Core.Bool.{Bool, true, false, ◌||◌}
 use lib.Dec.{eqb}
-use mir.Syntax.{w64}
-use mir.Val.{Fits, bool_byte}
+use mir.Val.{bool_byte}
 use borrow.Author.Tests.{ne_eqb, eqb-true}
 use Rattle.laws.proofs.Tests.{by}
 use Rattle.months.specs.Months.{leap, month_length, next_month, after_january}
 use Rattle.months.specs.Serving.{Twelve, length_in}
 use Rattle.months.proofs.Laws.{passes, passes_at}
-
--- ---- what the expression takes away: the days that a month lacks, of February 2, or 1 in a leap year
-pub bit_fits : (b : Bool) → bool_byte b ≤ 2
-bit_fits b = by b (λ e. rw e (omega arith)) (λ e. rw e (omega arith))
-
-lacks_most : (a b : Bool) → bool_byte a * (2 - bool_byte b) ≤ 2
-lacks_most a b = by a (λ e. rw e (omega arith)) (λ e. rw e (omega arith))
-
-pub lacks_fits : (a b : Bool) → Fits w64 (bool_byte a * (2 - bool_byte b))
-lacks_fits a b = omega (arith, lacks_most a b)
-
-pub lacks_there : (a b : Bool) (x : ℕ) → bool_byte a * (2 - bool_byte b) ≤ 30 + x
-lacks_there a b x = omega (arith, lacks_most a b)
 
 -- ---- the expression is the table: one test over all months, of a leap year and of another year
 abbrev reckoned : ℕ → ℕ → ℕ
@@ -42,6 +28,3 @@ module _ (year month : ℕ) where
       let no : eqb month 0 ≡ false = ne_eqb month 0 (omega arith) in
       let here : agrees year month ≡ true = passes_at (agrees year) 13 month (all_agree year) (omega arith) in
       eqb-true (reckoned year month) (length_in year month) (rw no at here)
-
-  pub length_most : reckoned year month ≤ 31
-  length_most = omega arith

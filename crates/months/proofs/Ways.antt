@@ -8,7 +8,7 @@ use mir.Val.{Fits}
 use Rattle.laws.proofs.Tests.{by_order, impossible, apart}
 use Rattle.months.specs.declared.Month.{Month}
 use Rattle.months.specs.Months.{month_number, year_of, month_of_year, days_in, all_months, start_of, month_of}
-use Rattle.months.specs.Serving.{Twelve, length_in, month_at, month_in, InYear}
+use Rattle.months.specs.Serving.{length_in, month_at, month_in, InYear}
 use Rattle.months.proofs.Laws.{start_next, days_high, start_mono, days_of, start_year, start_end_lem, Falls, month_some, falls_low, month_is, month_past}
 
 -- ---- length_after
@@ -23,7 +23,6 @@ module _ (year month later r : ℕ) (m : InYear year month) (h : later ≤ 12) w
 -- so many months of the year are passed
 pub record Passed (year month passed start : ℕ) : Type 0 where
   pub first : 1 ≤ passed
-  pub last : passed ≤ month
   pub here : start ≡ start_of (month_number year passed)
   pub small : start < 100000000
 
@@ -36,7 +35,7 @@ module _ (year month : ℕ) (m : InYear year month) where
   passed_none days e =
       let same : 12 * (year - 1970) ≡ month_number year 1 = omega arith in
       let here : 1440 * days ≡ start_of (month_number year 1) = e ∙ ap start_of same in
-      record { first = omega arith; last = m.first; here = here; small = omega (arith, start_small (month_number year 1) (omega arith)) }
+      record { first = omega arith; here = here; small = omega (arith, start_small (month_number year 1) (omega arith)) }
 
   module _ (passed start : ℕ) (p : Passed year month passed start) where
     pub passed_on : (days : ℕ) → passed < month → days ≡ length_in year passed → Passed year month (passed + 1) (start + 1440 * days)
@@ -45,22 +44,14 @@ module _ (year month : ℕ) (m : InYear year month) where
         let same : month_number year (passed + 1) ≡ suc k = omega arith in
         let days_are : days ≡ days_in k = e ∙ sym (days_of k year passed (omega arith) (omega arith)) in
         let here : start + 1440 * days ≡ start_of (month_number year (passed + 1)) = omega (arith, ap start_of same, start_next k, p.here) in
-        record { first = omega arith; last = omega arith; here = here; small = omega (arith, start_small (month_number year (passed + 1)) (omega arith)) }
-
-    pub passed_all : month ≤ passed → start ≡ start_of (month_number year month)
-    passed_all h =
-        let same : passed ≡ month = omega arith in
-        p.here ∙ ap (λ (i : ℕ). start_of (month_number year i)) same
+        record { first = omega arith; here = here; small = omega (arith, start_small (month_number year (passed + 1)) (omega arith)) }
 
 -- ---- month_of
--- month after month of the year 1970 + n, in which minute t falls
-pub record Turns (t n month start days : ℕ) : Type 0 where
+-- minute t falls in a month of the year 1970 + n, from this one on
+pub record Turns (t n month start : ℕ) : Type 0 where
   pub first : 1 ≤ month
-  pub last : month ≤ 12
   pub few : n ≤ 130
   pub here : start ≡ start_of (12 * n + (month - 1))
-  pub days_are : days ≡ length_in (1970 + n) month
-  pub most : days ≤ 31
   pub low : start ≤ t
   pub high : t < start_of (12 * n + 12)
   pub end : t < 68418720
@@ -70,53 +61,30 @@ month_path : {y y' m m' s s' d d' : ℕ} → y ≡ y' → m ≡ m' → s ≡ s' 
 month_path e f g h = λ i. record { year = e i; month = f i; start = g i; days = h i }
 
 module _ (t n : ℕ) where
-  pub turns_first : (before days : ℕ) → t < 68418720 → n ≡ (4 * (t / 1440) + 2) / 1461
-      → 1440 * before ≡ start_of (12 * n) → days ≡ length_in (1970 + n) 1 → days ≤ 31 → Turns t n 1 (1440 * before) days
-  turns_first before days h e b d most =
+  pub turns_first : (before : ℕ) → t < 68418720 → n ≡ (4 * (t / 1440) + 2) / 1461 → 1440 * before ≡ start_of (12 * n) → Turns t n 1 (1440 * before)
+  turns_first before h e b =
       let first : 12 * n + 0 ≡ 12 * n = omega arith in
       let next : 12 * n + 12 ≡ 12 * suc n = omega arith in
       record {
         first = omega arith;
-        last = omega arith;
         few = omega arith;
         here = rw first b;
-        days_are = d;
-        most = most;
         low = omega (arith, start_year n);
         high = rw next (omega (arith, start_year (suc n)));
         end = h;
       }
 
-  module _ (month start days : ℕ) (v : Turns t n month start days) where
+  module _ (month start : ℕ) (v : Turns t n month start) (days : ℕ) (last : month < 13) (e : days ≡ length_in (1970 + n) month) where
     here_days : days ≡ days_in (12 * n + (month - 1))
-    here_days = v.days_are ∙ sym (days_of (12 * n + (month - 1)) (1970 + n) month (omega (arith, v.first, v.last)) (omega (arith, v.first, v.last)))
+    here_days = e ∙ sym (days_of (12 * n + (month - 1)) (1970 + n) month (omega (arith, v.first)) (omega (arith, v.first)))
 
     here_next : start + 1440 * days ≡ start_of (suc (12 * n + (month - 1)))
     here_next = omega (arith, v.here, start_next (12 * n + (month - 1)), here_days)
 
-    pub turns_more : start + 1440 * days ≤ t → Twelve (month + 1)
-    turns_more h =
-        let last : suc (12 * n + (month - 1)) ≡ 12 * n + month = omega (arith, v.first) in
-        by_order month 12
-        (λ l. record { first = omega arith; last = omega arith })
-        (λ l. impossible (omega (arith, start_mono (12 * n + 12) (12 * n + month) (omega arith), ap start_of last, here_next, v.high)))
-
-    pub turns_on : (later : ℕ) → start + 1440 * days ≤ t → later ≡ length_in (1970 + n) (month + 1) → later ≤ 31
-        → Turns t n (month + 1) (start + 1440 * days) later
-    turns_on later h e most =
+    pub turns_on : start + 1440 * days ≤ t → Turns t n (month + 1) (start + 1440 * days)
+    turns_on h =
         let same : 12 * n + (month + 1 - 1) ≡ suc (12 * n + (month - 1)) = omega (arith, v.first) in
-        let more = turns_more h in
-        record {
-          first = more.first;
-          last = more.last;
-          few = v.few;
-          here = rw same here_next;
-          days_are = e;
-          most = most;
-          low = h;
-          high = v.high;
-          end = v.end;
-        }
+        record { first = omega arith; few = v.few; here = rw same here_next; low = h; high = v.high; end = v.end }
 
     pub turns_end : t < start + 1440 * days
         → (Some (record { year = 1970 + n; month = month; start = start; days = days })) ≡ month_in (month_of t)
@@ -125,7 +93,7 @@ module _ (t n : ℕ) where
         let low : start_of k ≤ t = omega (arith, v.here, v.low) in
         let known : k < all_months = by_order k all_months (λ l. l) (λ l. impossible (omega (arith, start_mono all_months k l, start_end_lem, v.end))) in
         rw (month_is t k (record { low = low; high = omega (arith, here_next); known = known }))
-        (ap Some (month_path (omega (arith, v.first, v.last)) (omega (arith, v.first, v.last)) v.here here_days))
+        (ap Some (month_path (omega (arith, v.first)) (omega (arith, v.first)) v.here here_days))
 
 pub month_gone : (t : ℕ) → 68418720 ≤ t → None ≡ month_in (month_of t)
 month_gone t h = rw (month_past t h)

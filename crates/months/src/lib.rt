@@ -42,10 +42,8 @@ pub fn month_start(year: usize, month: usize) -> usize
     ensures most { result ≤ 100000000 }
 {
     let mut start = 1440 * days_before(year - 1970);
-    let mut passed = 1;
-    while passed < month {
+    for passed in 1..month {
         start += 1440 * month_length(year, passed);
-        passed += 1;
     }
     start
 }
@@ -73,17 +71,19 @@ pub fn month_of(minute: usize) -> Option<Month>
     }
     let n = (4 * (minute / 1440) + 2) / 1461;
     let mut start = 1440 * days_before(n);
-    let mut month = 1;
-    let mut days = month_length(1970 + n, 1);
-    while start + 1440 * days <= minute {
-        start += 1440 * days;
-        month += 1;
-        days = month_length(1970 + n, month);
+    for month in 1..13 {
+        let days = month_length(1970 + n, month);
+        let next = start + 1440 * days;
+        if minute < next {
+            return Some(Month {
+                year: 1970 + n,
+                month,
+                start,
+                days,
+            });
+        }
+        start = next;
     }
-    Some(Month {
-        year: 1970 + n,
-        month,
-        start,
-        days,
-    })
+    // The minute falls in one of the year's twelve months.
+    unreachable!()
 }

@@ -7,7 +7,7 @@ use mathlib.Core.Bool.{true, false}
 use Rattle.std.specs.Prelude.{Option, None, Some, Result, Ok, Err, IfOk}
 use borrow.Author.Tests.{le-leb, lt-leb}
 use lib.Dec.{leb}
-use lib.ListN.{length, take, drop, replicate, length-replicate, take-append-drop}
+use lib.ListN.{length, drop, replicate, take-append-drop}
 use lib.Seq.{length-take-le}
 use Rattle.laws.specs.Lists.{All, all_nil, all_cons}
 use Rattle.laws.proofs.Tests.{apart, same_test}
@@ -23,7 +23,7 @@ use Rattle.codes.proofs.Bounds.{Below}
 use Rattle.codes.proofs.Steps.{read_then, read_step, Ahead, step_ahead}
 use Rattle.codes.proofs.Twice.{twice_then, twice_step, Stretched, gathered, before_gathered, gathered_before}
 use Rattle.sets.specs.Held.{vacant, places_for, places_in, Good}
-use Rattle.sets.specs.Runs.{capped, kept, held_by, held_after, is_over, is_twice, holds_in, Grown}
+use Rattle.sets.specs.Runs.{capped, held_by, is_over, is_twice, holds_in, Grown}
 use Rattle.sets.specs.declared.Places.{Places}
 use Rattle.sets.specs.declared.Put.{Put}
 use Rattle.sets.specs.declared.Put.TheVariants as put
@@ -63,22 +63,22 @@ abbrev twice_on : List ℕ → Cursor → List Stretch → Option ℕ
 twice_on s c before = twice_from c.last before (elements_from c.at (drop c.at s))
 
 -- the block from here is the block from its start: all places so far are held, and the first element that covers one of them again is still ahead
-pub record Reads (s : List ℕ) (at : ℕ) (c : Cursor) (held : List ℕ) (count : ℕ) : Type 0 where
+pub record Reads (s : List ℕ) (at : ℕ) (c : Cursor) (t : Places) : Type 0 where
   pub before : List Stretch
   pub each : All Stretched before
-  pub good : Good (kept held count)
-  pub all : take count held ≡ gathered before
+  pub good : Good t
+  pub all : places_in t ≡ gathered before
   pub known : Below c.last
   pub same : read_from (length s) c.last (gathered before) (elements_from c.at (drop c.at s)) ≡ read_block s at
   pub repeat : twice_on s c before ≡ twice_at s at
 
-pub reads_start : (s : List ℕ) (at : ℕ) (held : List ℕ) → held ≡ replicate 120 0 → Reads s at (record { at = at; last = None }) held 0
+pub reads_start : (s : List ℕ) (at : ℕ) → Reads s at (record { at = at; last = None }) (places_for [])
 unfolding read_block twice_at gathered vacant
-reads_start s at held h =
+reads_start s at =
     record {
       before = [];
       each = all_nil;
-      good = record { long = ap length h ∙ length-replicate {A = ℕ} 120 0; few = omega arith; rising = nil; rest = h };
+      good = none_good;
       all = refl;
       known = tt;
       same = refl;
@@ -92,7 +92,7 @@ covered_held a before h k =
     (λ e. gathered_before a before (holds_out a (gathered before) e))
     (λ e. let b = before_gathered a before h k e in holds_in_lem a.from a.to b.place b.among b.from b.to)
 
-module _ (s : List ℕ) (at : ℕ) (c : Cursor) (array : List ℕ) (count : ℕ) (v : Reads s at c array count) (r : Step) (e : r ≡ step_at s c) where
+module _ (s : List ℕ) (at : ℕ) (c : Cursor) (t : Places) (v : Reads s at c t) (r : Step) (e : r ≡ step_at s c) where
   abbrev got : List ℕ
   got = gathered v.before
 
@@ -106,11 +106,11 @@ module _ (s : List ℕ) (at : ℕ) (c : Cursor) (array : List ℕ) (count : ℕ)
   reads_wrong place q w e = ap Err e ∙ ap (block_for (twice_at s at)) (then_is (Step.Wrong place) q)
 
   pub reads_purge : (stamp : Stamp) (place : ℕ) → r ≡ Step.Purge stamp place
-      → Ok (record { stamp = stamp; place = place; over = false; places = kept array count }) ≡ block_for (twice_at s at) (read_block s at)
+      → Ok (record { stamp = stamp; place = place; over = false; places = t }) ≡ block_for (twice_at s at) (read_block s at)
   reads_purge stamp place q =
-      let n : length got ≡ count = ap length (sym v.all) ∙ length-take-le count array (omega (arith, v.good.long, v.good.few)) in
+      let n : length got ≡ t.count = ap length (sym v.all) ∙ length-take-le t.count t.held (omega (arith, v.good.long, v.good.few)) in
       let few : leb (length got) 120 ≡ true = le-leb (length got) 120 (omega (arith, v.good.few)) in
-      ap (λ (x : Places). Ok (record { stamp = stamp; place = place; over = false; places = x })) (places_are_lem (kept array count) got v.good v.all)
+      ap (λ (x : Places). Ok (record { stamp = stamp; place = place; over = false; places = x })) (places_are_lem t got v.good v.all)
       ∙ (rw few)
       ∙ ap₂ block_for (twice_is (Step.Purge stamp place) q) (then_is (Step.Purge stamp place) q)
 
@@ -158,26 +158,26 @@ module _ (s : List ℕ) (at : ℕ) (c : Cursor) (array : List ℕ) (count : ℕ)
     is_over_lem (Some y) (block ps stamp z) h = refl
     is_over_lem t (wrong_at z) h = refl
 
-    module _ (array' : List ℕ) (x : Put) (w : Grown array count (place_of p n) (place_of p m + 1) array' x) where
+    module _ (after : Places) (x : Put) (w : Grown t (place_of p n) (place_of p m + 1) after x) where
       again_is : is_twice x ≡ covered_before here v.before
       again_is =
           let f : place_of p m + 1 - 1 ≡ place_of p m = omega arith in
           w.twice ∙ ap₂ (λ (k : ℕ) (l : List ℕ). holds_in (place_of p n) k l) f v.all ∙ covered_held here v.before some_here v.each
 
-      held_now : is_twice x ≡ false → held_by (is_over x) (held_after array' count x) ≡ capped (gathered (here ∷ v.before))
+      held_now : is_twice x ≡ false → held_by (is_over x) after ≡ capped (gathered (here ∷ v.before))
       held_now t =
           let f : place_of p m + 1 - place_of p n ≡ suc m - n = omega arith in
           w.held t ∙ ap₂ (λ (k : ℕ) (l : List ℕ). capped (insert_run k (place_of p n) l)) f v.all ∙ ap capped more_is
 
-      pub reads_total : (total : ℕ) → x ≡ put.Total total → Reads s at behind array' total
-      reads_total total h =
-          let t : is_twice x ≡ false = rw h in
-          let a : covered_before here v.before ≡ false = sym again_is ∙ t in
+      pub reads_held : x ≡ put.Held → Reads s at behind after
+      reads_held h =
+          let y : is_twice x ≡ false = rw h in
+          let a : covered_before here v.before ≡ false = sym again_is ∙ y in
           record {
             before = here ∷ v.before;
             each = all_cons some_here v.each;
-            good = rw h at w.good;
-            all = held_is false (kept array' total) (gathered (here ∷ v.before)) (rw h at (held_now t)) refl;
+            good = w.good;
+            all = held_is false after (gathered (here ∷ v.before)) (rw h at (held_now y)) refl;
             known = ahead.low.known;
             same = next_is;
             repeat = rw a at (twice_is (Step.Covers p n m next) q);
@@ -187,7 +187,7 @@ module _ (s : List ℕ) (at : ℕ) (c : Cursor) (array : List ℕ) (count : ℕ)
       pub reads_over : x ≡ put.Over → (b : Result Block Refusal) → b ≡ over_for (twice_at s at) (rest_of (read_on s behind)) → b ≡ block_for (twice_at s at) (read_block s at)
       reads_over h b eb =
           let t : is_twice x ≡ false = rw h in
-          let k : 120 < length (gathered (here ∷ v.before)) = held_many true (kept array' count) (gathered (here ∷ v.before)) (rw h at (held_now t)) refl in
+          let k : 120 < length (gathered (here ∷ v.before)) = held_many true after (gathered (here ∷ v.before)) (rw h at (held_now t)) refl in
           eb ∙ ap (over_for (twice_at s at)) ends
           ∙ is_over_lem (twice_at s at) (read_block s at)
           (λ ps stamp z g o. omega (arith, read_long (length s) (Some p) (gathered (here ∷ v.before)) rest_of_lem ps stamp z (next_is ∙ g)))

@@ -1,10 +1,10 @@
 // Place code blocks, read whole: document 01, "Segments and place code blocks".
 #![tactic(auto)]
 
-ghost use Rattle.std.specs.Prelude.{◌≡◌, [], Some, IfOk};
+ghost use Rattle.std.specs.Prelude.{◌≡◌, Some, IfOk};
 ghost use Rattle.refusal.specs.Answer.{answer_by};
 ghost use Rattle.codes.specs.Block.{read_block, twice_at};
-ghost use Rattle.sets.specs.Held.{Good, places_for};
+ghost use Rattle.sets.specs.Held.{Good};
 ghost use Rattle.reading.specs.Placed.{placed_at};
 ghost use Rattle.reading.specs.Held.{block_for, placed_of};
 ghost use Rattle.reading.specs.Rests.{Known, read_on, rest_of, over_for};
@@ -29,14 +29,6 @@ pub struct Content {
     pub purge: usize,
     pub place: usize,
     pub places: Places,
-}
-
-// No places.
-fn none() -> Places
-    ensures { result ≡ places_for [] }
-{
-    let held: [u32; 120] = [0; 120];
-    Places { held, count: 0 }
 }
 
 // The rest of a block, of which no place is kept: its DDHHMM and the place of that element.
@@ -73,7 +65,7 @@ fn found_over(text: &[u8], at: usize, from: Cursor) -> Result<Block, Refusal>
         stamp,
         place,
         over: true,
-        places: none(),
+        places: Places::new(),
     })
 }
 
@@ -92,8 +84,7 @@ pub fn read_block(text: &[u8], at: usize) -> Result<Block, Refusal>
     ensures good { IfOk result (λ b. Good b.places) }
 {
     let mut cursor = Cursor { at, last: None };
-    let mut held: [u32; 120] = [0; 120];
-    let mut count = 0;
+    let mut places = Places::new();
     loop {
         let here = cursor.at;
         let step = cursor.quick_step(text);
@@ -103,17 +94,13 @@ pub fn read_block(text: &[u8], at: usize) -> Result<Block, Refusal>
                     at: next.at,
                     last: Some(prefix),
                 };
-                let put = sets::cover(&mut held, count, prefix, first, last);
-                match put {
-                    Put::Total(total) => {
-                        count = total;
-                    }
+                match places.cover(prefix, first, last) {
+                    Put::Held => {}
                     Put::Over => return found_over(text, at, cursor),
                     Put::Twice => return found_twice(text, here, cursor),
                 }
             }
             Step::Purge(stamp, place) => {
-                let places = Places { held, count };
                 return Ok(Block {
                     stamp,
                     place,

@@ -118,3 +118,40 @@ reads_full s from v at left r p =
     let e : from + digits_in_front most_digits (drop from s) ≡ at = (rw z at r.ends) ∙ omega arith in
     let f : decimal 0 (take (digits_in_front most_digits (drop from s)) (drop from s)) ≡ v = rw z at r.is in
     rw (e, f)
+
+-- the same after k of ten digits
+pub record ReadsSome (s : List ℕ) (from v k : ℕ) : Type 0 where
+  pub most : k ≤ 10
+  pub reads : Reads s from v (from + k) (10 - k)
+
+pub some_start : (s : List ℕ) (from : ℕ) → from ≤ length s → ReadsSome s from 0 0
+some_start s from h = record { most = omega arith; reads = let e : from + 0 ≡ from = omega arith in rw e (reads_start s from h) }
+
+module _ (s : List ℕ) (from v k : ℕ) (r : ReadsSome s from v k) where
+  pub some_high : from + k ≤ length s
+  some_high = r.reads.high
+
+  pub some_full : 10 ≤ k → ◌≡◌ {A = Number} (record { value = v; end = from + 10 }) (number_from s from)
+  some_full h =
+      let e : k ≡ 10 = omega (arith, r.most) in
+      reads_full s from v (from + 10) (10 - 10) (rw e at r.reads) (omega arith)
+
+  module _ (h : k < 10) where
+    left : 0 < 10 - k
+    left = omega arith
+
+    pub some_ten : Fits w64 (10 * v)
+    some_ten = ten_fits s from v (from + k) (10 - k) r.reads left
+
+    module _ (b : ℕ) (t : Bool) (e : b ≡ get_or s (from + k) 0) (q : t ≡ digit b) where
+      pub some_fits : t ≡ true → Fits w64 (10 * v + (b - 48))
+      some_fits = digit_fits s from v (from + k) (10 - k) r.reads left b t e q
+
+      pub some_next : t ≡ true → ReadsSome s from (10 * v + (b - 48)) (k + 1)
+      some_next d =
+          let at : from + (k + 1) ≡ from + k + 1 = omega arith in
+          let less : 10 - (k + 1) ≡ 10 - k - 1 = omega arith in
+          record { most = omega arith; reads = rw (at, less) (reads_next s from v (from + k) (10 - k) r.reads left b t e q d) }
+
+      pub some_stop : t ≡ false → ◌≡◌ {A = Number} (record { value = v; end = from + k }) (number_from s from)
+      some_stop = reads_stop s from v (from + k) (10 - k) r.reads left b t e q

@@ -1,10 +1,10 @@
 -- A text that takes the place of a case's own: `% n`. Assumes nothing.
 use Prim.Native.Nat.{ℕ, zero, suc, ◌+◌, ◌-◌, ◌≤◌, ◌<◌}
 use native.Mathlib.Omega.{arith}
-use mathlib.Core.Path.{◌≡◌, refl}
+use mathlib.Core.Path.{◌≡◌, refl, sym, ◌∙◌}
 use mathlib.Core.List.{List, [], ◌∷◌}
-use mathlib.Core.Bool.{Bool, true, false, cond, ◌&&◌}
-use Rattle.std.specs.Prelude.{Option, None, Some}
+use mathlib.Core.Bool.{true, false, cond, ◌&&◌}
+use Rattle.std.specs.Prelude.{Option, None, Some, option_map}
 use lib.ListN.{length, get_or, take, drop, length-drop, drop_of_length-le}
 use lib.Seq.{drop-drop}
 use lib.Dec.{eqb}
@@ -25,31 +25,48 @@ only_is (n ∷ (m ∷ ns)) zero h = refl
 only_is (n ∷ (m ∷ ns)) (suc zero) h = refl
 only_is (n ∷ (m ∷ ns)) (suc (suc k)) h = rw (ne_eqb (suc (suc k)) 1 (λ e. omega arith))
 
-asked_by : (known : Bool) (kind count : ℕ) (ns : List ℕ) → 2 ≤ length ns
-    → text_asked (cond known (Some (record { kind = kind; numbers = take count ns })) None)
-    ≡ cond ((known && eqb kind percent) && eqb count 1) (Some (get_or ns 0 0)) None
+asked_is : (l : Line) → length l.numbers ≡ 5 → text_asked (Some (paper_line l)) ≡ cond (eqb l.kind percent && eqb l.count 1) (Some (get_or l.numbers 0 0)) None
 unfolding text_asked
-asked_by false kind count ns h = refl
-asked_by true kind count ns h = by (eqb kind percent) (λ p. rw p (only_is ns count h)) (λ p. rw p)
+asked_is l e = by (eqb l.kind percent) (λ p. rw p (only_is l.numbers l.count (omega arith))) (λ p. rw p)
 
-pub asked_is : (l : Line) → length l.numbers ≡ 5
-    → text_asked (paper_line l) ≡ cond ((l.known && eqb l.kind percent) && eqb l.count 1) (Some (get_or l.numbers 0 0)) None
-asked_is l e = asked_by l.known l.kind l.count l.numbers (omega arith)
+module _ (l : Line) (e : length l.numbers ≡ 5) where
+  pub asked_one : (eqb l.kind percent && eqb l.count 1) ≡ true → Some (get_or l.numbers 0 0) ≡ text_asked (Some (paper_line l))
+  asked_one t = sym (asked_is l e ∙ rw t)
 
-module _ (l : Option CallLine) (n : ℕ) (asks : Bool) (e : text_asked l ≡ cond asks (Some n) None) (c : Standing) where
-  pub line_text : (r : Standing) → asks ≡ true → r ≡ replaced n c → r ≡ after_line l c
+  pub asked_none : (eqb l.kind percent && eqb l.count 1) ≡ false → None ≡ text_asked (Some (paper_line l))
+  asked_none t = sym (asked_is l e ∙ rw t)
+
+module _ (l : Option CallLine) (c : Standing) where
+  line_other : text_asked l ≡ None → c ≡ after_line l c
   unfolding after_line
-  line_text r t q = rw (e, t) q
+  line_other e = rw e
+
+  line_text : (n : ℕ) → text_asked l ≡ Some n → (r : Standing) → r ≡ replaced n c → r ≡ after_line l c
+  unfolding after_line
+  line_text n e r q = rw e q
 
   -- the same of an answer that may be an error
-  pub line_answer : {E : Type 0} (s : List ℕ) (r : Result Progress E) → asks ≡ true
+  line_answer : {E : Type 0} (s : List ℕ) (n : ℕ) → text_asked l ≡ Some n → (r : Result Progress E)
       → IfOk r (λ after. paper_progress s after ≡ replaced n c) → IfOk r (λ after. paper_progress s after ≡ after_line l c)
-  line_answer s (Ok after) t q = line_text (paper_progress s after) t q
-  line_answer s (Err x) t q = tt
+  line_answer s n e (Ok after) q = line_text n e (paper_progress s after) q
+  line_answer s n e (Err x) q = tt
 
-  pub line_other : asks ≡ false → c ≡ after_line l c
-  unfolding after_line
-  line_other f = rw (e, f)
+-- by what was spelled: a line of another form, a line that asks for no text, and one that does
+module _ (o : Option Line) (c : Standing) where
+  pub line_unknown : o ≡ None → c ≡ after_line (option_map paper_line o) c
+  unfolding after_line text_asked
+  line_unknown e = rw e
+
+  module _ (l : Line) (e : o ≡ Some l) (a : Option ℕ) (ea : a ≡ text_asked (Some (paper_line l))) where
+    told : text_asked (option_map paper_line o) ≡ a
+    told = rw e (sym ea)
+
+    pub line_quiet : a ≡ None → c ≡ after_line (option_map paper_line o) c
+    line_quiet q = line_other (option_map paper_line o) c (told ∙ q)
+
+    pub line_asks : {E : Type 0} (s : List ℕ) (n : ℕ) → a ≡ Some n → (r : Result Progress E)
+        → IfOk r (λ after. paper_progress s after ≡ replaced n c) → IfOk r (λ after. paper_progress s after ≡ after_line (option_map paper_line o) c)
+    line_asks s n q = line_answer (option_map paper_line o) c s n (told ∙ q)
 
 -- ---- what is taken of the input
 module _ (s : List ℕ) (p : Progress) (n : ℕ) where

@@ -5,7 +5,7 @@ use native.Mathlib.Omega.{arith}
 use mathlib.Core.Path.{◌≡◌, refl, sym, ap, ◌∙◌}
 use mathlib.Core.List.{List, [], ◌∷◌, ◌++◌, append-nil, append_assoc}
 use mathlib.Core.Bool.{Bool, true, false, cond, and-false}
-use Rattle.std.specs.Prelude.{Option, None, Some}
+use Rattle.std.specs.Prelude.{Option, None, Some, option_map}
 use lib.ListN.{length, get_or, take, drop, set, length-append, drop_of_length-le, length-set}
 use lib.Seq.{drop-cons, drop-drop, length-take-le}
 use lib.Dec.{eqb}
@@ -15,7 +15,6 @@ use Rattle.laws.proofs.Stores.{push_text}
 use Rattle.lines.specs.Bytes.{digit}
 use Rattle.laws.specs.Lists.{every}
 use Rattle.replay.specs.Lines.{most_digits, is_number, decimal, words, onto, numbers_in, behind, numbers_behind, called, call_line, line_up_to, digits_in_front, number_from, paper_line}
-use Rattle.replay.specs.declared.Line.{Line}
 use Rattle.replay.specs.declared.Number.{Number}
 
 -- ---- the first word, and the others
@@ -162,16 +161,16 @@ unfolding call_line
 call_is [] h = let no : ⊥ = omega arith in absurd no
 call_is (k ∷ s) h = refl
 
-pub spells_empty : (line : List ℕ) (r : Line) → length line ≡ 0 → r.known ≡ false → paper_line r ≡ call_line line
+pub spells_empty : (line : List ℕ) → length line ≡ 0 → option_map paper_line None ≡ call_line line
 unfolding call_line
-spells_empty [] r e f = rw f
-spells_empty (b ∷ s) r e f = let no : ⊥ = omega arith in absurd no
+spells_empty [] e = refl
+spells_empty (b ∷ s) e = let no : ⊥ = omega arith in absurd no
 
 module _ (line numbers : List ℕ) (count at : ℕ) (v : Spells line numbers count at) where
-  nothing : (r : Line) → r.known ≡ false → called (get_or line 0 0) (numbers_behind (drop 1 line)) ≡ None → paper_line r ≡ call_line line
-  nothing r f e = rw (f, call_is line (omega (arith, v.low, v.high)), e)
+  nothing : called (get_or line 0 0) (numbers_behind (drop 1 line)) ≡ None → option_map paper_line None ≡ call_line line
+  nothing e = rw (call_is line (omega (arith, v.low, v.high)), e)
 
-  pub spells_done : length line ≤ at → paper_line (record { known = true; kind = get_or line 0 0; count = count; numbers = numbers }) ≡ call_line line
+  pub spells_done : length line ≤ at → option_map paper_line (Some (record { kind = get_or line 0 0; count = count; numbers = numbers })) ≡ call_line line
   unfolding numbers_behind words behind numbers_in joined called
   spells_done h =
       let l : length (take count numbers) ≡ count = length-take-le count numbers (omega (arith, v.most, v.long)) in
@@ -181,9 +180,9 @@ module _ (line numbers : List ℕ) (count at : ℕ) (v : Spells line numbers cou
     here : drop at line ≡ get_or line at 0 ∷ drop (at + 1) line
     here = rw add-one (drop-cons line at 0 h)
 
-    pub spells_wrong : (r : Line) → (get_or line at 0 ≡ 32 → ⊥) → r.known ≡ false → paper_line r ≡ call_line line
+    pub spells_wrong : (get_or line at 0 ≡ 32 → ⊥) → option_map paper_line None ≡ call_line line
     unfolding joined called
-    spells_wrong r n f = nothing r f (rw (v.is, here, numbers_wrong (get_or line at 0) (drop (at + 1) line) n))
+    spells_wrong n = nothing (rw (v.is, here, numbers_wrong (get_or line at 0) (drop (at + 1) line) n))
 
     module _ (e : get_or line at 0 ≡ 32) where
       space : drop at line ≡ 32 ∷ drop (at + 1) line
@@ -195,18 +194,18 @@ module _ (line numbers : List ℕ) (count at : ℕ) (v : Spells line numbers cou
       too_many d None n k true l = refl
       too_many d (Some ns) n k true l = rw (lt-leb (length (d ++ (n ∷ ns))) 5 (rw (length-append d (n ∷ ns), l) (omega arith)))
 
-      pub spells_many : (r : Line) → count ≡ 5 → r.known ≡ false → paper_line r ≡ call_line line
-      spells_many r m f =
+      pub spells_many : count ≡ 5 → option_map paper_line None ≡ call_line line
+      spells_many m =
           let l : length (take count numbers) ≡ 5 = length-take-le count numbers (omega (arith, v.long)) ∙ m in
-          nothing r f (rw (v.is, space, spaced (drop (at + 1) line)) (too_many (take count numbers) (numbers_in (rest (drop (at + 1) line))) (decimal 0 (line_up_to 32 (drop (at + 1) line))) (get_or line 0 0) (is_number (line_up_to 32 (drop (at + 1) line))) l))
+          nothing (rw (v.is, space, spaced (drop (at + 1) line)) (too_many (take count numbers) (numbers_in (rest (drop (at + 1) line))) (decimal 0 (line_up_to 32 (drop (at + 1) line))) (get_or line 0 0) (is_number (line_up_to 32 (drop (at + 1) line))) l))
 
       module _ (n : Number) (en : n ≡ number_from line (at + 1)) where
         ends : n.end ≡ at + 1 + digits_in_front most_digits (drop (at + 1) line)
         ends = ap (λ (x : Number). x.end) en
 
-        pub spells_none : (r : Line) → n.end ≡ at + 1 → r.known ≡ false → paper_line r ≡ call_line line
+        pub spells_none : n.end ≡ at + 1 → option_map paper_line None ≡ call_line line
         unfolding joined called
-        spells_none r z f = nothing r f (rw (v.is, space, numbers_none (drop (at + 1) line) (omega (arith, ends))))
+        spells_none z = nothing (rw (v.is, space, numbers_none (drop (at + 1) line) (omega (arith, ends))))
 
         pub spells_on : (count ≡ 5 → ⊥) → (n.end ≡ at + 1 → ⊥) → n.end ≤ length line → Spells line (set numbers count n.value) (count + 1) n.end
         spells_on m z k =

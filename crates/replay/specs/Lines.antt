@@ -157,8 +157,8 @@ abbrev pub number_from : List ℕ → ℕ → Number
 number_from s from =
     record { value = decimal 0 (take (digits_in_front most_digits (drop from s)) (drop from s)); end = from + digits_in_front most_digits (drop from s) }
 
-abbrev pub paper_line : Line → Option CallLine
-paper_line l = cond l.known (Some (record { kind = l.kind; numbers = take l.count l.numbers })) None
+abbrev pub paper_line : Line → CallLine
+paper_line l = record { kind = l.kind; numbers = take l.count l.numbers }
 
 abbrev pub paper_source : List ℕ → Source → Start
 paper_source s c = record { year = c.year; month = c.month; bulletin = part s c.start c.end; rest = drop c.end s }

@@ -1,7 +1,7 @@
 // The replay program: bulletins, and after each a list of calls on its book; it prints a line for each.
 #![tactic(auto)]
 
-ghost use Rattle.std.specs.Prelude.{◌≡◌, option_map, false, cond, ◌+◌, ◌*◌, ◌≤◌, ◌<◌, length, get_or, drop, IfOk};
+ghost use Rattle.std.specs.Prelude.{◌≡◌, option_map, Some, ◌+◌, ◌*◌, ◌≤◌, ◌<◌, length, get_or, drop, IfOk};
 ghost use Rattle.std.specs.Prelude.{None, Some};
 ghost use Rattle.lines.specs.Bytes.{lf};
 ghost use Rattle.replay.specs.Lines.{call_line, line_up_to, case_of, number_from, paper_line, paper_source, lines_within};
@@ -35,10 +35,9 @@ struct Number {
     end: usize,
 }
 
-// A call line: its first byte and the numbers behind it; not known where it has another form.
+// A call line: its first byte and the numbers behind it.
 #[derive(Clone, Copy)]
 struct Line {
-    known: bool,
     kind: u8,
     count: usize,
     numbers: [usize; 5],
@@ -51,65 +50,52 @@ fn read_number(line: &[u8], from: usize) -> Number
     ensures ends { (from ≤ result.end) × (result.end ≤ length line.now) }
 {
     let mut value = 0;
-    let mut at = from;
-    let mut left: usize = 10;
-    while 0 < left {
-        let b = lines::byte(line, at);
-        let good = lines::digit(b);
-        if good {
-            value = 10 * value + (b - 48) as usize;
-            at += 1;
-            left -= 1;
-        } else {
-            return Number { value, end: at };
+    for k in 0..10 {
+        let b = lines::byte(line, from + k);
+        if !lines::digit(b) {
+            return Number {
+                value,
+                end: from + k,
+            };
         }
+        value = 10 * value + (b - b'0') as usize;
     }
-    Number { value, end: at }
-}
-
-// A line of another form.
-fn unknown() -> Line
-    ensures { result.known ≡ false }
-{
-    Line {
-        known: false,
-        kind: 0,
-        count: 0,
-        numbers: [0; 5],
+    Number {
+        value,
+        end: from + 10,
     }
 }
 
-// A byte, and numbers of one to ten digits with single spaces before them.
-fn spell(line: &[u8]) -> Line
-    ensures { paper_line result ≡ call_line line.now }
+// A byte, and numbers of one to ten digits with single spaces before them; a line of another form is none.
+fn spell(line: &[u8]) -> Option<Line>
+    ensures { option_map paper_line result ≡ call_line line.now }
 {
     let mut numbers = [0usize; 5];
     let mut count = 0;
     let mut at = 1;
     if line.len() == 0 {
-        return unknown();
+        return None;
     }
     while at < line.len() {
-        if line[at] != 32 {
-            return unknown();
+        if line[at] != b' ' {
+            return None;
         }
         if count == 5 {
-            return unknown();
+            return None;
         }
         let n = read_number(line, at + 1);
         if n.end == at + 1 {
-            return unknown();
+            return None;
         }
         numbers[count] = n.value;
         count += 1;
         at = n.end;
     }
-    Line {
-        known: true,
+    Some(Line {
         kind: line[0],
         count,
         numbers,
-    }
+    })
 }
 
 // Where the line that starts at `at` ends: at its LF, or at the input's end.
@@ -118,14 +104,12 @@ fn line_end(input: &[u8], at: usize) -> usize
     ensures is { result ≡ at + length (line_up_to lf (drop at input.now)) }
     ensures ends { (at ≤ result) × (result ≤ length input.now) }
 {
-    let mut i = at;
-    while i < input.len() {
-        if input[i] == 10 {
+    for i in at..input.len() {
+        if input[i] == b'\n' {
             return i;
         }
-        i += 1;
     }
-    i
+    input.len()
 }
 
 // ---- where a case starts
@@ -154,7 +138,7 @@ fn read_opening(input: &[u8], at: usize) -> Option<Source>
     if n.end != 13 {
         return None;
     }
-    if head[13] != 10 {
+    if head[13] != b'\n' {
         return None;
     }
     if room - 14 < n.value {
@@ -230,20 +214,21 @@ fn say_verdict<W: Write>(to: &mut W, verdict: Result<(), Refusal>) -> io::Result
 // The last hex digit of n.
 fn hex(n: u8) -> u8 {
     let digit = n % 16;
-    if digit < 10 { 48 + digit } else { 87 + digit }
+    if digit < 10 {
+        b'0' + digit
+    } else {
+        b'a' + (digit - 10)
+    }
 }
 
 // The bytes in lower-case hex, a block's 512 at once.
 fn say_hex<W: Write>(to: &mut W, bytes: &[u8]) -> io::Result<()> {
     let mut text = [0u8; 1024];
     let mut filled: usize = 0;
-    let mut i: usize = 0;
-    while i < bytes.len() {
-        let b = bytes[i];
-        text[filled] = hex(b / 16);
-        text[filled + 1] = hex(b);
+    for b in bytes {
+        text[filled] = hex(*b / 16);
+        text[filled + 1] = hex(*b);
         filled += 2;
-        i += 1;
         if 1022 < filled {
             printing::say(to, &text)?;
             filled = 0;
@@ -253,48 +238,86 @@ fn say_hex<W: Write>(to: &mut W, bytes: &[u8]) -> io::Result<()> {
 }
 
 // ---- calls
-// How many numbers a line of this kind has; more than any line where there is no such kind.
-fn takes(kind: u8) -> usize {
-    match kind {
-        b'O' | b'U' | b'E' | b'+' | b'Z' => 0,
-        b'C' | b'Q' | b'V' | b'F' | b'B' | b'L' => 1,
-        b'T' | b'P' | b'N' | b'W' | b'!' => 2,
-        b'I' | b'A' | b'X' => 3,
-        b'M' => 5,
-        _ => 6,
-    }
+// A call on the book, with its numbers in the order of the line.
+#[derive(Clone, Copy)]
+enum Call {
+    Open,
+    Take(usize, usize),
+    ReadPurge(usize, usize),
+    ReadCount(usize, usize),
+    ReadPlace(usize, usize, usize),
+    Add(usize, usize, usize),
+    Remove(usize, usize, usize),
+    SetPurge(usize, usize, Stamp),
+    Commit(usize),
+    Drop(usize),
+    Undo,
 }
 
-// Calls on a draft's copy: `P`, `N`, `I`, `A`, `X` and `M`.
-fn copy_call(book: &mut [u8], kind: u8, n: [usize; 5]) -> Result<Reply, Refusal> {
-    let d = n[0];
-    let s = n[1];
-    match kind {
-        b'P' => drafts::read_purge(book, d, s),
-        b'N' => drafts::read_count(book, d, s),
-        b'I' => drafts::read_place(book, d, s, n[2]),
-        b'A' => edits::add(book, d, s, n[2]),
-        b'X' => edits::remove(book, d, s, n[2]),
-        _ => {
+// What a line asks for: a call on the book, or something of the case's text or buffer.
+#[derive(Clone, Copy)]
+enum Request {
+    Call(Call),
+    Make,
+    Write(usize, usize),
+    WriteEdited(usize),
+    List,
+    View(usize),
+    Lend(usize),
+    Block(usize),
+    Byte(usize, usize),
+    Sum,
+}
+
+// What a line with this first byte and so many numbers asks for, if it is one of the lines.
+fn read_request(line: Line) -> Option<Request> {
+    let n = line.numbers;
+    match (line.kind, line.count) {
+        (b'O', 0) => Some(Request::Call(Call::Open)),
+        (b'T', 2) => Some(Request::Call(Call::Take(n[0], n[1]))),
+        (b'P', 2) => Some(Request::Call(Call::ReadPurge(n[0], n[1]))),
+        (b'N', 2) => Some(Request::Call(Call::ReadCount(n[0], n[1]))),
+        (b'I', 3) => Some(Request::Call(Call::ReadPlace(n[0], n[1], n[2]))),
+        (b'A', 3) => Some(Request::Call(Call::Add(n[0], n[1], n[2]))),
+        (b'X', 3) => Some(Request::Call(Call::Remove(n[0], n[1], n[2]))),
+        (b'M', 5) => {
             let time = Stamp {
                 day: n[2],
                 hour: n[3],
                 minute: n[4],
             };
-            edits::set_purge(book, d, s, time)
+            Some(Request::Call(Call::SetPurge(n[0], n[1], time)))
         }
+        (b'C', 1) => Some(Request::Call(Call::Commit(n[0]))),
+        (b'Q', 1) => Some(Request::Call(Call::Drop(n[0]))),
+        (b'U', 0) => Some(Request::Call(Call::Undo)),
+        (b'+', 0) => Some(Request::Make),
+        (b'W', 2) => Some(Request::Write(n[0], n[1])),
+        (b'F', 1) => Some(Request::WriteEdited(n[0])),
+        (b'E', 0) => Some(Request::List),
+        (b'V', 1) => Some(Request::View(n[0])),
+        (b'L', 1) => Some(Request::Lend(n[0])),
+        (b'B', 1) => Some(Request::Block(n[0])),
+        (b'!', 2) => Some(Request::Byte(n[0], n[1])),
+        (b'Z', 0) => Some(Request::Sum),
+        _ => None,
     }
 }
 
-// Calls on a book: `O`, `T`, `C`, `Q`, `U`, and those on a draft's copy.
-fn book_call(book: &mut [u8], kind: u8, n: [usize; 5]) -> Result<Reply, Refusal> {
-    match kind {
-        b'O' => drafts::open(book),
-        b'T' => drafts::take(book, n[0], n[1]),
-        b'C' => history::commit(book, n[0]),
-        b'Q' => drafts::drop(book, n[0]),
-        b'U' => history::undo(book),
-        _ => copy_call(book, kind, n),
+// Does a call on a book.
+fn answer(book: &mut [u8], call: Call) -> Result<Reply, Refusal> {
+    match call {
+        Call::Open => drafts::open(book),
+        Call::Take(d, s) => drafts::take(book, d, s),
+        Call::ReadPurge(d, s) => drafts::read_purge(book, d, s),
+        Call::ReadCount(d, s) => drafts::read_count(book, d, s),
+        Call::ReadPlace(d, s, i) => drafts::read_place(book, d, s, i),
+        Call::Add(d, s, p) => edits::add(book, d, s, p),
+        Call::Remove(d, s, p) => edits::remove(book, d, s, p),
+        Call::SetPurge(d, s, time) => edits::set_purge(book, d, s, time),
+        Call::Commit(d) => history::commit(book, d),
+        Call::Drop(d) => drafts::drop(book, d),
+        Call::Undo => history::undo(book),
     }
 }
 
@@ -353,10 +376,8 @@ fn total(bytes: &[u8]) -> usize
     ensures { result ≡ weighted_sum bytes.now }
 {
     let mut sum: usize = 1;
-    let mut i: usize = 0;
-    while i < bytes.len() {
-        sum += weigh(i, bytes[i]);
-        i += 1;
+    for (i, b) in bytes.iter().enumerate() {
+        sum += weigh(i, *b);
     }
     sum % 4294967291
 }
@@ -456,25 +477,23 @@ fn act<W: Write>(
     requires { (length buffer.old ≡ 30000) × (lent ≤ 30000) }
     ensures { IfOk result (λ lent. lent ≤ 30000) }
 {
-    let kind = line.kind;
-    let n = line.numbers;
-    let year = source.year;
-    let month = source.month;
-    if !line.known | (line.count != takes(kind)) {
+    let Some(request) = read_request(line) else {
         say_unknown(to)?;
         return Ok(lent);
-    }
-    match kind {
-        b'L' => return lend_line(to, lent, n[0]),
-        b'B' => block_line(to, buffer, n[0])?,
-        b'!' => byte_line(to, buffer, n[0], n[1])?,
-        b'Z' => say_value(to, b"Z", total(buffer))?,
-        b'V' => view_line(to, text, year, month, n[0])?,
-        b'E' => printing::list(to, text, year, month)?,
-        b'W' => write_line(to, &buffer[0..lent], n[0], n[1])?,
-        b'F' => edited_line(to, text, &buffer[0..lent], n[0])?,
-        b'+' => make_line(to, buffer, lent, text, year, month)?,
-        _ => say_reply(to, book_call(&mut buffer[0..lent], kind, n))?,
+    };
+    let year = source.year;
+    let month = source.month;
+    match request {
+        Request::Call(asked) => say_reply(to, answer(&mut buffer[0..lent], asked))?,
+        Request::Make => make_line(to, buffer, lent, text, year, month)?,
+        Request::Write(s, room) => write_line(to, &buffer[0..lent], s, room)?,
+        Request::WriteEdited(room) => edited_line(to, text, &buffer[0..lent], room)?,
+        Request::List => printing::list(to, text, year, month)?,
+        Request::View(n) => view_line(to, text, year, month, n)?,
+        Request::Lend(n) => return lend_line(to, lent, n),
+        Request::Block(i) => block_line(to, buffer, i)?,
+        Request::Byte(at, b) => byte_line(to, buffer, at, b)?,
+        Request::Sum => say_value(to, b"Z", total(buffer))?,
     }
     Ok(lent)
 }
@@ -488,11 +507,16 @@ struct Progress {
     lent: usize,
 }
 
-// Whether a line is `% n`.
-fn asks_text(line: Line) -> bool
-    ensures { text_asked (paper_line line) ≡ cond result (Some (get_or line.numbers 0 0)) None }
+// The n of a line `% n`.
+fn asked_text(line: Line) -> Option<usize>
+    ensures { result ≡ text_asked (Some (paper_line line)) }
 {
-    line.known & (line.kind == b'%') & (line.count == 1)
+    let numbers = line.numbers;
+    if (line.kind == b'%') & (line.count == 1) {
+        Some(numbers[0])
+    } else {
+        None
+    }
 }
 
 // `% n`: the n bytes behind the line become the case's text. Where fewer follow, the program ends: no line of the input is left to do.
@@ -531,16 +555,18 @@ fn do_line<W: Write>(
     input: &[u8],
     source: Source,
     progress: Progress,
-    line: Line,
+    spelled: Option<Line>,
 ) -> io::Result<Progress>
     requires { (length buffer.old ≡ 30000) × (progress.next ≤ length input.now) × (progress.lent ≤ 30000) }
-    ensures is { IfOk result (λ after. paper_progress input.now after ≡ after_line (paper_line line) (paper_progress input.now progress)) }
+    ensures is { IfOk result (λ after. paper_progress input.now after ≡ after_line (option_map paper_line spelled) (paper_progress input.now progress)) }
     ensures goes { IfOk result (λ after. Onward (length input.now) progress after) }
 {
-    let asked = asks_text(line);
-    if asked {
-        let n = line.numbers;
-        return text_line(to, input, progress, n[0]);
+    let Some(line) = spelled else {
+        say_unknown(to)?;
+        return Ok(progress);
+    };
+    if let Some(n) = asked_text(line) {
+        return text_line(to, input, progress, n);
     }
     let text = lines::part(input, progress.start, progress.end);
     let mut after = progress;
@@ -571,7 +597,7 @@ fn run<W: Write>(to: &mut W, input: &[u8], source: Source) -> io::Result<usize>
         }
         let line = &input[at..end];
         progress.next = end + 1;
-        if (line.len() == 1) & (lines::byte(line, 0) == b'.') {
+        if line == b".".as_slice() {
             return Ok(end + 1);
         }
         progress = do_line(to, &mut buffer, input, source, progress, spell(line))?;

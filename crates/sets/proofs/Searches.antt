@@ -3,11 +3,11 @@ use Prim.Native.Nat.{ℕ, zero, suc, ◌+◌, ◌-◌, ◌*◌, ◌/◌, ◌≤�
 use native.Mathlib.Omega.{arith}
 use mathlib.Core.Path.{◌≡◌, refl, sym, ap, ◌∙◌}
 use mathlib.Core.List.{List, [], ◌∷◌, Memᴰ}
-use mathlib.Core.Bool.{Bool, true, false, cond, ◌&&◌, or-true, and-false}
-use lib.ListN.{length, get_or, take, replicate, get_or-replicate}
-use lib.Seq.{get_or-take, get_or-drop, length-take-le}
-use lib.Dec.{ltb, leb}
-use borrow.Author.Tests.{ltb-true, ltb-false, lt-ltb, le-ltb, le-leb, lt-leb, leb-true}
+use mathlib.Core.Bool.{true, false, cond, ◌&&◌, or-true, and-false}
+use lib.ListN.{length, get_or, take, drop, replicate}
+use lib.Seq.{get_or-take, take-add, length-take-le}
+use lib.Dec.{eqb, ltb, leb}
+use borrow.Author.Tests.{ltb-true, lt-ltb, le-ltb, le-leb, lt-leb, leb-true}
 use Rattle.laws.proofs.Tables.{every_at}
 use Rattle.laws.specs.Lists.{every}
 use Rattle.laws.proofs.Tests.{impossible, apart, by, by_order, same_test, and_left, and_right}
@@ -16,8 +16,13 @@ use Rattle.codes.specs.Serving.{First}
 use Rattle.codes.specs.Block.{Stretch}
 use Rattle.codes.proofs.Members.{first_none}
 use Rattle.codes.proofs.Twice.{Both}
-use Rattle.sets.specs.Held.{vacant, Good}
-use Rattle.sets.specs.Runs.{kept, all_below, holds_in}
+use Rattle.sets.specs.Held.{vacant, places_in, Good}
+use Rattle.sets.specs.Runs.{all_below, holds_in}
+use Rattle.sets.specs.declared.Places.{Places}
+use Rattle.std.specs.List.{count_by}
+use Rattle.std.proofs.lemmas.List.Sums.{sum_by-cons, sum_by-append}
+use Rattle.std.proofs.lemmas.List.Folds.{sum_by-replicate}
+use Rattle.laws.proofs.Lists.{drop_alike, take_alike}
 
 -- ---- places that ascend
 from_bound : {b : ℕ} {l : List ℕ} → Ascending b l → (j : ℕ) → j < length l → b ≤ get_or l j 0
@@ -37,129 +42,72 @@ in_order_lem (cons g f a) (suc i) (suc j) k h = in_order_lem a i j (omega arith)
 lower : (held : List ℕ) (n p : ℕ) → Ascending 0 (take n held) → (k : ℕ) → k < n → n ≤ length held → get_or held k 0 < p → (j : ℕ) → j ≤ k → get_or (take n held) j 0 < p
 lower held n p rising k h fits l j g = omega (arith, in_order_lem rising j k g (omega (arith, length-take-le n held fits)), get_or-take n held k 0 h)
 
-pub one_more : (less x p : ℕ) → x < p → less + 1 ≡ cond (ltb x p) (less + 1) less
-one_more less x p h = rw (lt-ltb x p h)
+-- so many are less than p: where they ascend, these come first
+none_less : (p x : ℕ) (xs : List ℕ) → p ≤ x → First p (x ∷ xs) 0
+none_less p x xs h = record { within = omega arith; low = λ j k. impossible (omega arith); high = λ k. h }
 
-pub no_more : (less x p : ℕ) → p ≤ x → less ≡ cond (ltb x p) (less + 1) less
-no_more less x p h = rw (le-ltb x p h)
+one_less : (p x i : ℕ) (xs : List ℕ) → x < p → First p xs i → First p (x ∷ xs) (suc i)
+one_less p x i xs h f = record { within = omega (arith, f.within); low = below; high = λ k. f.high (omega arith) }
+  where
+    below : (j : ℕ) → j < suc i → get_or (x ∷ xs) j 0 < p
+    below zero k = h
+    below (suc j) k = f.low j (omega arith)
 
--- behind the places are zeros
-zero_behind : (held : List ℕ) (n : ℕ) → Good (kept held n) → (k : ℕ) → n ≤ k → k < 120 → get_or held k 0 ≡ 0
-unfolding vacant
-zero_behind held n g k h room =
-    let e : n + (k - n) ≡ k = omega arith in
-    ap (λ (j : ℕ). get_or held j 0) (sym e) ∙ sym (get_or-drop n held (k - n) 0) ∙ ap (λ (l : List ℕ). get_or l (k - n) 0) g.rest
-    ∙ get_or-drop n (replicate 120 0) (k - n) 0 ∙ get_or-replicate 120 (n + (k - n)) 0 0 (omega arith)
+abbrev less_than : ℕ → List ℕ → ℕ
+less_than p l = count_by (λ x. ltb x p) l
+
+counts_one : (p x : ℕ) (xs : List ℕ) → x < p → less_than p (x ∷ xs) ≡ suc (less_than p xs)
+counts_one p x xs h = sum_by-cons (λ y. cond (ltb y p) 1 0) x xs ∙ rw (lt-ltb x p h) (omega arith)
+
+counts_none : (p x : ℕ) (xs : List ℕ) → p ≤ x → less_than p (x ∷ xs) ≡ less_than p xs
+counts_none p x xs h = sum_by-cons (λ y. cond (ltb y p) 1 0) x xs ∙ rw (le-ltb x p h) (omega arith)
+
+first_counted : (p : ℕ) {b : ℕ} {l : List ℕ} → Ascending b l → First p l (less_than p l)
+first_counted p nil = record { within = omega arith; low = λ j h. impossible (omega arith); high = λ h. impossible (omega arith) }
+first_counted p (cons {p = x} {ps = xs} g f a) =
+    let w = first_counted p a in
+    by_order x p
+    (λ h. rw (counts_one p x xs h) (one_less p x (less_than p xs) xs h w))
+    λ h. let none : less_than p xs ≡ 0 =
+    by_order 0 (less_than p xs) (λ k. impossible (omega (arith, w.low 0 k, from_bound a 0 (omega (arith, w.within))))) (λ k. omega arith) in
+    rw (counts_none p x xs h, none) (none_less p x xs h)
 
 -- so many in whole eights
 abbrev eights : ℕ → ℕ
 eights n = (n + 7) / 8 * 8
 
--- Of the first k numbers so many are less than p: of the places, those before `real`; and every zero behind them.
-pub record Counted (held : List ℕ) (n p less k : ℕ) : Type 0 where
-  pub real : ℕ
-  pub few : real ≤ n
-  pub most : real ≤ k
-  pub within : k ≤ eights n
-  pub low : (j : ℕ) → j < real → get_or (take n held) j 0 < p
-  pub high : real < n → real < k → p ≤ get_or held real 0
-  pub sum : less ≡ real + (k - n)
+-- of the zeros behind the places all are less than p
+pub vacant_part : (e k : ℕ) → k + e ≤ 120 → take e (drop k vacant) ≡ replicate e 0
+unfolding vacant
+vacant_part e k h = ap (take e) (drop_alike 0 k 120 (omega arith)) ∙ take_alike 0 e (120 - k) (omega arith)
 
-pub counted_start : (held : List ℕ) (n p : ℕ) → Counted held n p 0 0
-counted_start held n p =
-    record {
-      real = 0;
-      few = omega arith;
-      most = omega arith;
-      within = omega arith;
-      low = λ j h. impossible (omega arith);
-      high = λ h k. impossible (omega arith);
-      sum = omega arith;
-    }
+zeros_less : (p k : ℕ) → (p ≡ 0 → ⊥) → less_than p (replicate k 0) ≡ k
+zeros_less p k h = sum_by-replicate (λ y. cond (ltb y p) 1 0) k 0 ∙ rw (lt-ltb 0 p (omega arith)) (omega arith)
 
-module _ (held : List ℕ) (n p less k : ℕ) (v : Counted held n p less k) (g : Good (kept held n)) where
-  fits : n ≤ length held
-  fits = omega (arith, g.long, g.few)
+module _ (t : Places) (p : ℕ) (g : Good t) (some : p ≡ 0 → ⊥) where
+  module _ (r : ℕ) (er : r ≡ less_than p (take (eights t.count) t.held)) where
+    abbrev behind : ℕ
+    behind = eights t.count - t.count
 
-  module _ (h : k < eights n) where
-    -- one that is less comes directly behind those before it, since they ascend
-    place_less : k < n → get_or held k 0 < p → Counted held n p (less + 1) (k + 1)
-    place_less i l =
-        let all : (j : ℕ) → j ≤ k → get_or (take n held) j 0 < p = lower held n p g.rising k i fits l in
-        let e : v.real ≡ k =
-        by_order v.real k
-        (λ f. impossible (omega (arith, v.high (omega arith) f, all v.real (omega arith), get_or-take n held v.real 0 (omega arith))))
-        (λ f. omega (arith, v.most)) in
-        record {
-          real = k + 1;
-          few = omega arith;
-          most = omega arith;
-          within = omega arith;
-          low = λ j f. all j (omega arith);
-          high = λ f d. impossible (omega arith);
-          sum = omega (arith, v.sum);
-        }
+    all_less : r ≡ less_than p (places_in t) + behind
+    all_less =
+        let f : ℕ → ℕ = λ y. cond (ltb y p) 1 0 in
+        let e : t.count + behind ≡ eights t.count = omega arith in
+        er
+        ∙ ap (λ (k : ℕ). less_than p (take k t.held)) (sym e)
+        ∙ ap (less_than p) (take-add t.count behind t.held)
+        ∙ sum_by-append f (places_in t) (take behind (drop t.count t.held))
+        ∙ ap (λ (l : List ℕ). less_than p (places_in t) + less_than p l) (ap (take behind) g.rest ∙ vacant_part behind t.count (omega (arith, g.few)))
+        ∙ ap (λ (k : ℕ). less_than p (places_in t) + k) (zeros_less p behind some)
 
-    place_more : k < n → p ≤ get_or held k 0 → Counted held n p less (k + 1)
-    place_more i l =
-        record {
-          real = v.real;
-          few = v.few;
-          most = omega (arith, v.most);
-          within = omega arith;
-          low = v.low;
-          high = λ f d. by_order v.real k (v.high f) (λ o. let e : v.real ≡ k = omega (arith, v.most) in rw e l);
-          sum = omega (arith, v.sum);
-        }
+    is_real : r - behind ≡ less_than p (places_in t)
+    is_real = omega (arith, all_less)
 
-    zero_less : n ≤ k → Counted held n p (less + 1) (k + 1)
-    zero_less i =
-        record {
-          real = v.real;
-          few = v.few;
-          most = omega (arith, v.most);
-          within = omega arith;
-          low = v.low;
-          high = λ f d. v.high f (omega arith);
-          sum = omega (arith, v.sum);
-        }
+    pub counted_room : eights t.count - t.count ≤ r
+    counted_room = omega (arith, all_less)
 
-    pub counted_on : (p ≡ 0 → ⊥) → (x : ℕ) → x ≡ get_or held k 0 → (r : ℕ) → r ≡ cond (ltb x p) (less + 1) less → Counted held n p r (k + 1)
-    counted_on some-p x ex r er =
-        by (ltb x p)
-        (λ t. let e : r ≡ less + 1 = rw t at er in
-        rw e (by_order k n (λ i. place_less i (omega (arith, ltb-true x p t))) zero_less))
-        λ t. let e : r ≡ less = rw t at er in
-        rw e
-        (by_order k n (λ i. place_more i (omega (arith, ltb-false x p t)))
-        (λ i. impossible (omega (arith, ltb-false x p t, zero_behind held n g k i (omega (arith, g.few))))))
-
-  pub counted_few : less ≤ 120
-  counted_few = omega (arith, v.most, v.few, v.within, v.sum, g.few)
-
-  module _ (past : eights n ≤ k) (r : ℕ) (er : r ≡ less) where
-    is_real : r - (eights n - n) ≡ v.real
-    is_real = omega (arith, v.within, v.sum)
-
-    pub counted_done : First p (take n held) (r - (eights n - n))
-    counted_done =
-        let w : length (take n held) ≡ n = length-take-le n held fits in
-        rw is_real
-        (record {
-          within = omega (arith, v.few);
-          low = v.low;
-          high = λ i. rw (get_or-take n held v.real 0 (omega arith)) (v.high (omega arith) (omega (arith, v.within)));
-        })
-
-    pub counted_most : r - (eights n - n) ≤ n
-    counted_most = omega (arith, is_real, v.few)
-
-    pub counted_room : eights n - n ≤ r
-    counted_room = omega (arith, v.within, v.sum)
-
--- nothing is less than 0
-pub first_zero : (held : List ℕ) (n p : ℕ) → p ≡ 0 → First p (take n held) 0
-first_zero held n p e = record { within = omega arith; low = λ j h. impossible (omega arith); high = λ h. omega arith }
+    pub counted_done : First p (places_in t) (r - (eights t.count - t.count))
+    counted_done = rw is_real (first_counted p g.rising)
 
 -- ---- a run among places that ascend
 above_out : (low high : ℕ) {b : ℕ} {l : List ℕ} → Ascending b l → high < b → holds_in low high l ≡ false
@@ -205,33 +153,21 @@ among (x ∷ xs) zero h = Memᴰ.head refl
 among (x ∷ xs) (suc i) h = Memᴰ.tail (among xs i (omega arith))
 
 -- the first that is not less than p tells
-module _ (held : List ℕ) (n p q i : ℕ) (f : First p (take n held) i) (fits : n ≤ length held) (less : Bool) (is : less ≡ (ltb i n && ltb (get_or held i 0) q)) where
-  pub less_first : p < q → less ≡ false → First q (take n held) i
-  less_first h t =
+module _ (held : List ℕ) (n p q i : ℕ) (f : First p (take n held) i) (fits : n ≤ length held) where
+  pub less_first : p < q → (i < n → q ≤ get_or held i 0) → First q (take n held) i
+  less_first h k =
       let l : length (take n held) ≡ n = length-take-le n held fits in
       record {
         within = f.within;
         low = λ j g. omega (arith, f.low j g);
-        high = λ g. let k : i < n = omega arith in
-            let e : ltb (get_or held i 0) q ≡ false = (rw (lt-ltb i n k) at (sym is)) ∙ t in
-            rw (get_or-take n held i 0 k) (ltb-false (get_or held i 0) q e);
+        high = λ g. rw (get_or-take n held i 0 (omega arith)) (k (omega arith));
       }
 
-  pub less_held : less ≡ true → holds_in p (q - 1) (take n held) ≡ true
-  less_held t =
-      let e : (ltb i n && ltb (get_or held i 0) q) ≡ true = sym is ∙ t in
-      let k : i < n = ltb-true i n (and_left (ltb i n) (ltb (get_or held i 0) q) e) in
-      let m : get_or held i 0 < q = ltb-true (get_or held i 0) q (and_right (ltb i n) (ltb (get_or held i 0) q) e) in
+  pub less_held : i < n → get_or held i 0 < q → holds_in p (q - 1) (take n held) ≡ true
+  less_held k m =
       let l : length (take n held) ≡ n = length-take-le n held fits in
       let g : get_or (take n held) i 0 ≡ get_or held i 0 = get_or-take n held i 0 k in
       holds_in_lem p (q - 1) (get_or (take n held) i 0) (among (take n held) i (omega arith)) (f.high (omega arith)) (omega arith)
-
--- ---- whether a place is less
-pub less_in : (i n x q : ℕ) → i < n → ltb x q ≡ (ltb i n && ltb x q)
-less_in i n x q h = rw (lt-ltb i n h)
-
-pub less_out : (i n x q : ℕ) → n ≤ i → false ≡ (ltb i n && ltb x q)
-less_out i n x q h = rw (le-ltb i n h)
 
 -- ---- all below
 pub below_each : (p : ℕ) (l : List ℕ) → all_below p l ≡ true → (j : ℕ) → j < length l → get_or l j 0 < p
@@ -250,7 +186,7 @@ unfolding every
 each_below p [] h = refl
 each_below p (x ∷ xs) h = rw (lt-ltb x p (h 0 (omega arith)), each_below p xs (λ j k. h (suc j) (omega arith)))
 
-pub none_below : (held : List ℕ) (n p : ℕ) → n ≡ 0 → true ≡ all_below p (take n held)
+pub none_below : (held : List ℕ) (n p : ℕ) → n ≡ 0 → eqb n 0 ≡ all_below p (take n held)
 unfolding every
 none_below held n p h = rw h
 

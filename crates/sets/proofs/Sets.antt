@@ -1,62 +1,27 @@
 -- Places in an array: moved, filled, and a run put in at once. Assumes nothing.
 use Prim.Native.Nat.{ℕ, zero, suc, ◌+◌, ◌-◌, ◌*◌, ◌/◌, ◌≤◌, ◌<◌}
-use native.Mathlib.Numerals.{add-one}
-use native.Mathlib.Nat.{add-zero, add_assoc, sub-zero}
+use native.Mathlib.Nat.{add_assoc}
 use native.Mathlib.Omega.{arith}
-use mathlib.Core.Path.{◌≡◌, refl, sym, ap, ap₂, subst, ◌∙◌}
+use mathlib.Core.Path.{◌≡◌, refl, sym, ap, ap₂, ◌∙◌}
 use mathlib.Core.List.{List, ◌∷◌, ◌++◌, append_assoc}
-use mathlib.Core.Bool.{Bool, true, false, ◌&&◌}
+use mathlib.Core.Bool.{Bool, true, false}
 use Rattle.std.specs.Prelude.{None, Some}
-use lib.ListN.{length, get_or, take, drop, replicate, take-append-drop, set, length-set, length-append, length-drop}
-use lib.Seq.{paste, take-add, paste-zero, paste-suc, length-paste, length-take-le, take-append-le, take-take, take_all, take_at, drop_at, drop-drop}
-use lib.Dec.{ltb}
+use lib.ListN.{length, get_or, take, drop, take-append-drop, set, length-append, length-drop}
+use lib.Seq.{paste, take-add, paste-zero, length-paste, length-take-le, take-append-le, take-take, take_all, take_at, drop_at, drop-drop}
 use borrow.Author.Tests.{le-leb, lt-leb}
 use Rattle.laws.proofs.Tests.{by_order, impossible, apart}
-use Rattle.laws.proofs.Lists.{drop_take, drop_alike, take_alike}
-use Rattle.laws.proofs.Pastes.{up_turn, paste_down}
+use Rattle.laws.proofs.Lists.{drop_take}
+use Rattle.laws.proofs.Pastes.{paste_down}
+use Rattle.std.proofs.lemmas.List.Edits.{paste_more}
 use Rattle.codes.specs.Places.{places_end, upward}
 use Rattle.codes.specs.Serving.{First}
 use Rattle.codes.specs.Block.{insert_run}
 use Rattle.codes.proofs.Members.{run_split, below_take, from_drop, run_ascending}
 use Rattle.sets.specs.Held.{vacant, places_in, Good}
-use Rattle.sets.specs.Runs.{capped, kept, held_by, holds_in, all_below, Grown}
+use Rattle.sets.specs.Runs.{capped, held_by, holds_in, all_below, Grown}
 use Rattle.sets.specs.declared.Places.{Places}
-use Rattle.sets.specs.declared.Put.{Put}
-use Rattle.sets.specs.declared.Put.TheVariants.{Total, Over, Twice}
-use Rattle.sets.proofs.Searches.{below_each, below_out, between_out, less_first, less_held}
-
--- ---- moved up
-pub record Moved (held₀ held : List ℕ) (from to m k : ℕ) : Type 0 where
-  pub left : k ≤ m
-  pub long : length held ≡ length held₀
-  pub bytes : held ≡ paste held₀ (to + k) (drop (from + k) held₀) (m - k)
-
-pub moved_start : (held : List ℕ) (from to m : ℕ) → Moved held held from to m m
-moved_start held from to m =
-    let e : 0 ≡ m - m = omega arith in
-    record { left = omega arith; long = refl; bytes = paste-zero held (to + m) (drop (from + m) held) ∙ ap (paste held (to + m) (drop (from + m) held)) e }
-
-module _ (held₀ held : List ℕ) (from to m k : ℕ) (v : Moved held₀ held from to m k) where
-  pub moved_on : from ≤ to → to + m ≤ length held₀ → 0 < k → Moved held₀ (set held (to + (k - 1)) (get_or held (from + (k - 1)) 0)) from to m (k - 1)
-  moved_on h g l =
-      let j : ℕ = k - 1 in
-      let n : ℕ = m - k in
-      let p : to + k ≡ to + j + 1 = omega arith in
-      let q : from + k ≡ from + j + 1 = omega arith in
-      let r : n + 1 ≡ m - j = omega (arith, v.left) in
-      record {
-        left = omega (arith, v.left);
-        long = simp length-set v.long;
-        bytes =
-            ap (λ (z : List ℕ). set z (to + j) (get_or z (from + j) 0)) (v.bytes ∙ ap₂ (λ (a b : ℕ). paste held₀ a (drop b held₀) n) p q)
-            ∙ up_turn 0 held₀ from to j n h (omega (arith, v.left))
-            ∙ ap (paste held₀ (to + j) (drop (from + j) held₀)) r;
-      }
-
-  pub moved_done : k ≤ 0 → held ≡ paste held₀ to (drop from held₀) m
-  moved_done h =
-      let e : k ≡ 0 = omega arith in
-      v.bytes ∙ ap (λ (k : ℕ). paste held₀ (to + k) (drop (from + k) held₀) (m - k)) e ∙ simp (add-zero, sub-zero)
+use Rattle.sets.specs.declared.Put.TheVariants.{Held, Over, Twice}
+use Rattle.sets.proofs.Searches.{vacant_part, below_each, below_out, between_out, less_first, less_held}
 
 -- ---- filled
 upward_length : (p n : ℕ) → length (upward p n) ≡ n
@@ -70,69 +35,45 @@ upward_at p zero k h = impossible (omega arith)
 upward_at p (suc n) zero h = omega arith
 upward_at p (suc n) (suc k) h = upward_at (suc p) n k (omega arith) ∙ omega arith
 
-pub record Filled (held₀ held : List ℕ) (at n p k q : ℕ) : Type 0 where
-  pub left : k ≤ n
-  pub long : length held ≡ length held₀
-  pub next : q ≡ p + k
-  pub bytes : held ≡ paste held₀ at (upward p n) k
-
-filled_none : (held : List ℕ) (at n p : ℕ) → Filled held held at n p 0 p
-filled_none held at n p = record { left = omega arith; long = refl; next = omega arith; bytes = paste-zero held at (upward p n) }
-
-module _ (held₀ held : List ℕ) (at n p k q : ℕ) (v : Filled held₀ held at n p k q) where
-  filled_on : at + n ≤ length held₀ → k < n → Filled held₀ (set held (at + k) q) at n p (k + 1) (q + 1)
-  filled_on h l =
-      record {
-        left = omega arith;
-        long = simp length-set v.long;
-        next = omega (arith, v.next);
-        bytes =
-            ap₂ (λ (z : List ℕ) (x : ℕ). set z (at + k) x) v.bytes (v.next ∙ sym (upward_at p n k l))
-            ∙ paste-suc held₀ at (upward p n) k 0 (omega arith) (omega (arith, upward_length p n))
-            ∙ ap (paste held₀ at (upward p n)) (sym (add-one k));
-      }
-
-  filled_done : n ≤ k → held ≡ paste held₀ at (upward p n) n
-  filled_done h = let e : k ≡ n = omega (arith, v.left) in v.bytes ∙ rw e
-
 -- the others than the first, which is stored when they are
-pub record Filling (held₀ held : List ℕ) (at n p k q : ℕ) : Type 0 where
+pub record Filling (t₀ t : Places) (at n p k : ℕ) : Type 0 where
   pub from : 1 ≤ k
   pub left : k ≤ n
-  pub long : length held ≡ length held₀
-  pub next : q ≡ p + k
-  pub filled : Filled held₀ held (at + 1) (n - 1) (p + 1) (k - 1) q
+  pub same : t.count ≡ t₀.count
+  pub held : t.held ≡ paste t₀.held (at + 1) (upward (p + 1) (n - 1)) (k - 1)
 
-pub filling_start : (held : List ℕ) (at n p : ℕ) → 1 ≤ n → Filling held held at n p 1 (p + 1)
-filling_start held at n p h = record { from = omega arith; left = h; long = refl; next = refl; filled = filled_none held (at + 1) (n - 1) (p + 1) }
+pub filling_start : (t : Places) (at n p : ℕ) → 1 ≤ n → Filling t t at n p 1
+filling_start t at n p h = record { from = omega arith; left = h; same = refl; held = paste-zero t.held (at + 1) (upward (p + 1) (n - 1)) }
 
-module _ (held₀ held : List ℕ) (at n p k q : ℕ) (v : Filling held₀ held at n p k q) (fits : at + n ≤ length held₀) where
-  pub filling_on : k < n → Filling held₀ (set held (at + k) q) at n p (k + 1) (q + 1)
+module _ (t₀ t : Places) (at n p k : ℕ) (v : Filling t₀ t at n p k) (fits : at + n ≤ length t₀.held) where
+  pub filling_on : k < n → Filling t₀ (record { held = set t.held (at + k) (p + k); count = t.count }) at n p (k + 1)
   filling_on h =
-      let e : at + 1 + (k - 1) ≡ at + k = omega (arith, v.from) in
-      let f : k - 1 + 1 ≡ k + 1 - 1 = omega (arith, v.from) in
+      let i : ℕ = k - 1 in
+      let s : List ℕ = upward (p + 1) (n - 1) in
+      let e : at + k ≡ at + 1 + i = omega (arith, v.from) in
+      let f : p + k ≡ get_or s i 0 = omega (arith, v.from, upward_at (p + 1) (n - 1) i (omega (arith, v.from))) in
+      let g : i + 1 ≡ k + 1 - 1 = omega (arith, v.from) in
       record {
         from = omega arith;
         left = omega arith;
-        long = simp length-set v.long;
-        next = omega (arith, v.next);
-        filled =
-            subst (λ (j : ℕ). Filled held₀ (set held j q) (at + 1) (n - 1) (p + 1) (k + 1 - 1) (q + 1)) e
-            (subst (λ (j : ℕ). Filled held₀ (set held (at + 1 + (k - 1)) q) (at + 1) (n - 1) (p + 1) j (q + 1)) f
-            (filled_on held₀ held (at + 1) (n - 1) (p + 1) (k - 1) q v.filled (omega arith) (omega (arith, v.from))));
+        same = v.same;
+        held =
+            ap₂ (λ (j : ℕ) (x : ℕ). set t.held j x) e f ∙ ap (λ (l : List ℕ). set l (at + 1 + i) (get_or s i 0)) v.held
+            ∙ paste_more t₀.held (at + 1) s i 0 (omega (arith, v.from)) (omega (arith, v.from, upward_length (p + 1) (n - 1)))
+            ∙ ap (paste t₀.held (at + 1) s) g;
       }
 
-  pub filling_done : n ≤ k → set held at p ≡ paste held₀ at (upward p n) n
+  pub filling_done : n ≤ k → set t.held at p ≡ paste t₀.held at (upward p n) n
   unfolding upward
   filling_done h =
       let e : n ≡ suc (n - 1) = omega (arith, v.from, v.left) in
-      let all : held ≡ paste held₀ (at + 1) (upward (p + 1) (n - 1)) (n - 1) = filled_done held₀ held (at + 1) (n - 1) (p + 1) (k - 1) q v.filled (omega arith) in
+      let f : k - 1 ≡ n - 1 = omega (arith, v.from, v.left) in
       let next : p + 1 ≡ suc p = omega arith in
       let more : n - 1 + 1 ≡ n = omega arith in
-      ap (λ (x : List ℕ). set x at p) all
-      ∙ paste_down 0 held₀ (upward (p + 1) (n - 1)) at (n - 1) p (omega arith)
-      ∙ ap₂ (λ (x : ℕ) (m : ℕ). paste held₀ at (p ∷ upward x (n - 1)) m) next more
-      ∙ ap (λ (m : ℕ). paste held₀ at (upward p m) n) (sym e)
+      ap (λ (x : List ℕ). set x at p) (v.held ∙ ap (paste t₀.held (at + 1) (upward (p + 1) (n - 1))) f)
+      ∙ paste_down 0 t₀.held (upward (p + 1) (n - 1)) at (n - 1) p (omega arith)
+      ∙ ap₂ (λ (x : ℕ) (m : ℕ). paste t₀.held at (p ∷ upward x (n - 1)) m) next more
+      ∙ ap (λ (m : ℕ). paste t₀.held at (upward p m) n) (sym e)
 
 -- ---- at most 120
 pub capped_few : (l : List ℕ) → length l ≤ 120 → capped l ≡ Some l
@@ -161,45 +102,40 @@ rest_more held count total h e =
     sym (drop-drop (total - count) count held ∙ rw n) ∙ ap (drop (total - count)) e ∙ drop-drop (total - count) count vacant ∙ rw n
 
 -- ---- moved up by whole eights
--- so many zeros stand from a place on
-vacant_part : (e k : ℕ) → k + e ≤ 120 → take e (drop k vacant) ≡ replicate e 0
-unfolding vacant
-vacant_part e k h = ap (take e) (drop_alike 0 k 120 (omega arith)) ∙ take_alike 0 e (120 - k) (omega arith)
-
-module _ (held : List ℕ) (count i n : ℕ) (g : Good (kept held count)) (low : i ≤ count) where
+module _ (t : Places) (i n : ℕ) (g : Good t) (low : i ≤ t.count) where
   -- zeros that stand behind the places move onto zeros
-  more_moved : (a m e : ℕ) → i + m ≡ count → a + m ≡ count + n → count + n + e ≤ 120 → paste held a (drop i held) (m + e) ≡ paste held a (drop i held) m
+  more_moved : (a m e : ℕ) → i + m ≡ t.count → a + m ≡ t.count + n → t.count + n + e ≤ 120 → paste t.held a (drop i t.held) (m + e) ≡ paste t.held a (drop i t.held) m
   more_moved a m e em ea room =
-      let behind : drop m (drop i held) ≡ drop count vacant = drop-drop m i held ∙ rw em g.rest in
-      let there : drop (a + m) held ≡ drop (count + n) vacant = rw ea (rest_more held count (count + n) (omega arith) g.rest) in
-      let zeros : take e (drop m (drop i held)) ≡ take e (drop (a + m) held) =
-      rw (behind, there) (vacant_part e count (omega arith) ∙ sym (vacant_part e (count + n) (omega arith))) in
-      let end : drop (a + (m + e)) held ≡ drop e (drop (a + m) held) = sym (drop-drop e (a + m) held ∙ rw (add_assoc a m e)) in
-      ap₂ (λ (x y : List ℕ). take a held ++ x ++ y) (take-add m e (drop i held) ∙ ap (λ (x : List ℕ). take m (drop i held) ++ x) zeros) end
-      ∙ joined (take a held) (take m (drop i held)) (take e (drop (a + m) held)) (drop e (drop (a + m) held))
-      ∙ ap (λ (x : List ℕ). take a held ++ take m (drop i held) ++ x) (take-append-drop e (drop (a + m) held))
+      let behind : drop m (drop i t.held) ≡ drop t.count vacant = drop-drop m i t.held ∙ rw em g.rest in
+      let there : drop (a + m) t.held ≡ drop (t.count + n) vacant = rw ea (rest_more t.held t.count (t.count + n) (omega arith) g.rest) in
+      let zeros : take e (drop m (drop i t.held)) ≡ take e (drop (a + m) t.held) =
+      rw (behind, there) (vacant_part e t.count (omega arith) ∙ sym (vacant_part e (t.count + n) (omega arith))) in
+      let end : drop (a + (m + e)) t.held ≡ drop e (drop (a + m) t.held) = sym (drop-drop e (a + m) t.held ∙ rw (add_assoc a m e)) in
+      ap₂ (λ (x y : List ℕ). take a t.held ++ x ++ y) (take-add m e (drop i t.held) ∙ ap (λ (x : List ℕ). take m (drop i t.held) ++ x) zeros) end
+      ∙ joined (take a t.held) (take m (drop i t.held)) (take e (drop (a + m) t.held)) (drop e (drop (a + m) t.held))
+      ∙ ap (λ (x : List ℕ). take a t.held ++ take m (drop i t.held) ++ x) (take-append-drop e (drop (a + m) t.held))
     where
       joined : (a b c d : List ℕ) → a ++ (b ++ c) ++ d ≡ a ++ b ++ (c ++ d)
       joined a b c d = simp append_assoc
 
-  pub eights_moved : i + n + (count - i + 7) / 8 * 8 ≤ 120 → (array : List ℕ) → array ≡ paste held (i + n) (drop i held) ((count - i + 7) / 8 * 8)
-      → array ≡ paste held (i + n) (drop i held) (count - i)
+  pub eights_moved : i + n + (t.count - i + 7) / 8 * 8 ≤ 120 → (array : List ℕ) → array ≡ paste t.held (i + n) (drop i t.held) (i + (t.count - i + 7) / 8 * 8 - i)
+      → array ≡ paste t.held (i + n) (drop i t.held) (t.count - i)
   eights_moved room array e =
-      let m : ℕ = count - i in
+      let m : ℕ = t.count - i in
       let eights : ℕ = (m + 7) / 8 * 8 in
-      let same : m + (eights - m) ≡ eights = omega arith in
-      e ∙ ap (paste held (i + n) (drop i held)) (sym same) ∙ more_moved (i + n) m (eights - m) (omega arith) (omega arith) (omega arith)
+      let same : i + eights - i ≡ m + (eights - m) = omega arith in
+      e ∙ ap (paste t.held (i + n) (drop i t.held)) same ∙ more_moved (i + n) m (eights - m) (omega arith) (omega arith) (omega arith)
 
 -- ---- a run put in at once, between those that are less than its first place and those that are not less than its end
-module _ (held : List ℕ) (count p q n i : ℕ) (g : Good (kept held count)) (pq : p < q) (en : n ≡ q - p) (fp : First p (take count held) i) (fq : First q (take count held) i)
-    (free : holds_in p (q - 1) (take count held) ≡ false) where
+module _ (t : Places) (p q n i : ℕ) (g : Good t) (pq : p < q) (en : n ≡ q - p) (fp : First p (take t.count t.held) i) (fq : First q (take t.count t.held) i)
+    (free : holds_in p (q - 1) (take t.count t.held) ≡ false) where
   abbrev l : List ℕ
-  l = take count held
+  l = take t.count t.held
 
-  l_long : length l ≡ count
-  l_long = length-take-le count held (omega (arith, g.long, g.few))
+  l_long : length l ≡ t.count
+  l_long = length-take-le t.count t.held (omega (arith, g.long, g.few))
 
-  i_low : i ≤ count
+  i_low : i ≤ t.count
   i_low = omega (arith, fp.within, l_long)
 
   split : insert_run n p l ≡ take i l ++ (upward p n ++ drop i l)
@@ -207,40 +143,40 @@ module _ (held : List ℕ) (count p q n i : ℕ) (g : Good (kept held count)) (p
       let e : p + n ≡ q = omega arith in
       run_split n p g.rising ∙ rw (e, below_take p l i fp, from_drop q l i fq)
 
-  run_long : length (insert_run n p l) ≡ count + n
+  run_long : length (insert_run n p l) ≡ t.count + n
   run_long = rw (split, length-append, length-append, length-take-le i l fp.within, upward_length, length-drop) (omega (arith, l_long, i_low))
 
   same_run : insert_run (q - p) p l ≡ insert_run n p l
   same_run = ap (λ (k : ℕ). insert_run k p l) (sym en)
 
-  run_over : 120 < count + n → Grown held count p q held Over
-  run_over h = record { good = g; twice = sym free; held = λ e. rw same_run (sym (capped_many (insert_run n p l) (omega (arith, run_long)))) }
+  run_over : 120 < t.count + n → Grown t p q t Over
+  run_over h = record { good = g; twice = sym free; held = λ e. rw same_run (sym (capped_many (insert_run n p l) (omega (arith, run_long)))); left = λ e. refl }
 
   -- after both moves the places stand in front
-  module _ (room : count + n ≤ 120) where
+  module _ (room : t.count + n ≤ 120) where
     abbrev moved : List ℕ
-    moved = paste held (i + n) (drop i held) (count - i)
+    moved = paste t.held (i + n) (drop i t.held) (t.count - i)
 
     abbrev rest : List ℕ
-    rest = drop (i + n + (count - i)) held
+    rest = drop (i + n + (t.count - i)) t.held
 
-    total : i + n + (count - i) ≡ count + n
+    total : i + n + (t.count - i) ≡ t.count + n
     total = omega (arith, i_low)
 
     tail : drop (i + n) moved ≡ drop i l ++ rest
     tail =
-        let e : take (i + n) held ++ (take (count - i) (drop i held) ++ rest) ≡ moved = sym (append_assoc (take (i + n) held) (take (count - i) (drop i held)) rest) in
+        let e : take (i + n) t.held ++ (take (t.count - i) (drop i t.held) ++ rest) ≡ moved = sym (append_assoc (take (i + n) t.held) (take (t.count - i) (drop i t.held)) rest) in
         ap (drop (i + n)) (sym e)
-        ∙ drop_at (take (i + n) held) (take (count - i) (drop i held) ++ rest) (i + n) (length-take-le (i + n) held (omega (arith, g.long, i_low)))
-        ∙ ap (λ (x : List ℕ). x ++ rest) (sym (drop_take i count held i_low (omega (arith, g.long, g.few, i_low))))
+        ∙ drop_at (take (i + n) t.held) (take (t.count - i) (drop i t.held) ++ rest) (i + n) (length-take-le (i + n) t.held (omega (arith, g.long, i_low)))
+        ∙ ap (λ (x : List ℕ). x ++ rest) (sym (drop_take i t.count t.held i_low (omega (arith, g.long, g.few, i_low))))
 
     front : take i moved ≡ take i l
     front =
-        let k : length (take (i + n) held) ≡ i + n = length-take-le (i + n) held (omega (arith, g.long, i_low)) in
-        take-append-le i (take (i + n) held ++ take (count - i) (drop i held)) rest (omega (arith, length-append (take (i + n) held) (take (count - i) (drop i held)), k))
-        ∙ take-append-le i (take (i + n) held) (take (count - i) (drop i held)) (omega (arith, k))
-        ∙ take-take i (i + n) held (omega arith)
-        ∙ sym (take-take i count held i_low)
+        let k : length (take (i + n) t.held) ≡ i + n = length-take-le (i + n) t.held (omega (arith, g.long, i_low)) in
+        take-append-le i (take (i + n) t.held ++ take (t.count - i) (drop i t.held)) rest (omega (arith, length-append (take (i + n) t.held) (take (t.count - i) (drop i t.held)), k))
+        ∙ take-append-le i (take (i + n) t.held) (take (t.count - i) (drop i t.held)) (omega (arith, k))
+        ∙ take-take i (i + n) t.held (omega arith)
+        ∙ sym (take-take i t.count t.held i_low)
 
     regroup : (a b c d : List ℕ) → a ++ b ++ (c ++ d) ≡ (a ++ (b ++ c)) ++ d
     regroup a b c d = simp append_assoc
@@ -252,64 +188,67 @@ module _ (held : List ℕ) (count p q n i : ℕ) (g : Good (kept held count)) (p
         ∙ regroup (take i l) (upward p n) (drop i l) rest
         ∙ ap (λ (x : List ℕ). x ++ rest) (sym split)
 
-    rest_in : drop (count + n) (paste moved i (upward p n) n) ≡ drop (count + n) vacant
+    rest_in : drop (t.count + n) (paste moved i (upward p n) n) ≡ drop (t.count + n) vacant
     rest_in =
-        ap (drop (count + n)) whole ∙ drop_at (insert_run n p l) rest (count + n) run_long
-        ∙ ap (λ (k : ℕ). drop k held) total ∙ rest_more held count (count + n) (omega arith) g.rest
+        ap (drop (t.count + n)) whole ∙ drop_at (insert_run n p l) rest (t.count + n) run_long
+        ∙ ap (λ (k : ℕ). drop k t.held) total ∙ rest_more t.held t.count (t.count + n) (omega arith) g.rest
 
-    run_in : take (count + n) (paste moved i (upward p n) n) ≡ insert_run n p l
-    run_in = ap (take (count + n)) whole ∙ take_at (insert_run n p l) rest (count + n) run_long
+    run_in : take (t.count + n) (paste moved i (upward p n) n) ≡ insert_run n p l
+    run_in = ap (take (t.count + n)) whole ∙ take_at (insert_run n p l) rest (t.count + n) run_long
 
-    run_total : q ≤ places_end → (array filled : List ℕ) → array ≡ moved → filled ≡ paste array i (upward p n) n → Grown held count p q filled (Total (count + n))
-    run_total e array filled ea ef =
-        let la : length array ≡ length held = ap length ea ∙ length-paste held (i + n) (drop i held) (count - i) (omega (arith, g.long, i_low)) (omega (arith, g.few, g.long, length-drop i held)) in
-        let lf : length filled ≡ length array = ap length ef ∙ length-paste array i (upward p n) n (omega (arith, g.long, i_low)) (omega (arith, upward_length p n)) in
-        let is : take (count + n) filled ≡ insert_run n p l = rw (ef, ea) run_in in
+    run_total : q ≤ places_end → (after : Places) → after.count ≡ t.count + n → after.held ≡ paste moved i (upward p n) n → Grown t p q after Held
+    run_total e after ec eh =
+        let la : length moved ≡ length t.held = length-paste t.held (i + n) (drop i t.held) (t.count - i) (omega (arith, g.long, i_low)) (omega (arith, g.few, g.long, length-drop i t.held)) in
+        let lf : length after.held ≡ length moved = ap length eh ∙ length-paste moved i (upward p n) n (omega (arith, g.long, i_low)) (omega (arith, upward_length p n)) in
+        let is : places_in after ≡ insert_run n p l = ap₂ (λ (k : ℕ) (x : List ℕ). take k x) ec eh ∙ run_in in
         record {
-          good = record { long = lf ∙ la ∙ g.long; few = room; rising = rw is (run_ascending n p (omega arith) (omega arith) g.rising); rest = rw (ef, ea) rest_in };
+          good = record {
+            long = lf ∙ la ∙ g.long;
+            few = omega (arith, room);
+            rising = rw is (run_ascending n p (omega arith) (omega arith) g.rising);
+            rest = ap₂ (λ (k : ℕ) (x : List ℕ). drop k x) ec eh ∙ rest_in ∙ ap (λ (k : ℕ). drop k vacant) (sym ec);
+          };
           twice = sym free;
           held = λ x. rw (is, same_run) (sym (capped_few (insert_run n p l) (omega (arith, run_long))));
+          left = λ f. absurd (f refl);
         }
 
 -- ---- among the places held, where the first that is not below p tells
-module _ (held : List ℕ) (count p q n i : ℕ) (g : Good (kept held count)) (pq : p < q) (en : n ≡ q - p) (fp : First p (take count held) i)
-    (less : Bool) (is : less ≡ (ltb i count && ltb (get_or held i 0) q)) where
-  long : count ≤ length held
+module _ (t : Places) (p q n i : ℕ) (g : Good t) (pq : p < q) (en : n ≡ q - p) (fp : First p (places_in t) i) where
+  long : t.count ≤ length t.held
   long = omega (arith, g.long, g.few)
 
-  pub insert_twice : less ≡ true → Grown held count p q held Twice
-  insert_twice t = record { good = g; twice = sym (less_held held count p q i fp long less is t); held = λ e. apart cc }
+  pub insert_twice : i < t.count → get_or t.held i 0 < q → Grown t p q t Twice
+  insert_twice k h = record { good = g; twice = sym (less_held t.held t.count p q i fp long k h); held = λ e. apart cc; left = λ e. refl }
 
-  module _ (t : less ≡ false) where
-    fq : First q (take count held) i
-    fq = less_first held count p q i fp long less is pq t
+  module _ (h : i < t.count → q ≤ get_or t.held i 0) where
+    fq : First q (places_in t) i
+    fq = less_first t.held t.count p q i fp long pq h
 
-    free_of : holds_in p (q - 1) (take count held) ≡ false
+    free_of : holds_in p (q - 1) (places_in t) ≡ false
     free_of = between_out p q i g.rising pq fp fq
 
-    pub insert_over : 120 < count + n → Grown held count p q held Over
-    insert_over = run_over held count p q n i g pq en fp fq free_of
+    pub insert_over : 120 < t.count + n → Grown t p q t Over
+    insert_over = run_over t p q n i g pq en fp fq free_of
 
-    pub insert_total : count + n ≤ 120 → q ≤ places_end → (array filled : List ℕ) → array ≡ paste held (i + n) (drop i held) (count - i)
-        → filled ≡ paste array i (upward p n) n → Grown held count p q filled (Total (count + n))
-    insert_total = run_total held count p q n i g pq en fp fq free_of
+    pub insert_total : t.count + n ≤ 120 → q ≤ places_end → (way after : Places) → way.held ≡ paste t.held (i + n) (drop i t.held) (t.count - i)
+        → after.count ≡ t.count + n → after.held ≡ paste way.held i (upward p n) n → Grown t p q after Held
+    insert_total r e way after em ec ea = run_total t p q n i g pq en fp fq free_of r e after ec (ea ∙ ap (λ (x : List ℕ). paste x i (upward p n) n) em)
 
 -- ---- behind places that are all below p nothing has to move
-module _ (held : List ℕ) (count p q n : ℕ) (g : Good (kept held count)) (pq : p < q) (en : n ≡ q - p) (low : all_below p (take count held) ≡ true) where
-  at_end : (x : ℕ) → p ≤ x → First x (take count held) count
+module _ (t : Places) (p q n : ℕ) (g : Good t) (pq : p < q) (en : n ≡ q - p) (low : all_below p (places_in t) ≡ true) where
+  at_end : (x : ℕ) → p ≤ x → First x (places_in t) t.count
   at_end x h =
-      let l : length (take count held) ≡ count = length-take-le count held (omega (arith, g.long, g.few)) in
-      record { within = omega arith; low = λ j k. omega (arith, below_each p (take count held) low j (omega arith)); high = λ k. impossible (omega arith) }
+      let l : length (places_in t) ≡ t.count = length-take-le t.count t.held (omega (arith, g.long, g.few)) in
+      record { within = omega arith; low = λ j k. omega (arith, below_each p (places_in t) low j (omega arith)); high = λ k. impossible (omega arith) }
 
-  pub append_over : 120 < count + n → Grown held count p q held Over
-  append_over = run_over held count p q n count g pq en (at_end p (omega arith)) (at_end q (omega arith)) (below_out p (q - 1) (take count held) low)
+  pub append_over : 120 < t.count + n → Grown t p q t Over
+  append_over = run_over t p q n t.count g pq en (at_end p (omega arith)) (at_end q (omega arith)) (below_out p (q - 1) (places_in t) low)
 
-  pub append_total : q ≤ places_end → count + n ≤ 120 → (filled : List ℕ) → filled ≡ paste held count (upward p n) n → Grown held count p q filled (Total (count + n))
-  append_total e h filled ef =
-      let z : 0 ≡ count - count = omega arith in
-      let same : held ≡ paste held (count + n) (drop count held) (count - count) = paste-zero held (count + n) (drop count held) ∙ ap (paste held (count + n) (drop count held)) z in
-      run_total held count p q n count g pq en (at_end p (omega arith)) (at_end q (omega arith)) (below_out p (q - 1) (take count held) low) h e held filled same ef
-
--- ---- by other names of the same places
-pub grown_as : (before : List ℕ) (count p q x y : ℕ) → p ≡ x → q ≡ y → (array : List ℕ) (put : Put) → Grown before count p q array put → Grown before count x y array put
-grown_as before count p q x y ep eq array put g = rw (← ep, ← eq) g
+  pub append_total : q ≤ places_end → t.count + n ≤ 120 → (after : Places) → after.count ≡ t.count + n → after.held ≡ paste t.held t.count (upward p n) n → Grown t p q after Held
+  append_total e h after ec ea =
+      let z : 0 ≡ t.count - t.count = omega arith in
+      let same : t.held ≡ paste t.held (t.count + n) (drop t.count t.held) (t.count - t.count) =
+      paste-zero t.held (t.count + n) (drop t.count t.held) ∙ ap (paste t.held (t.count + n) (drop t.count t.held)) z in
+      run_total t p q n t.count g pq en (at_end p (omega arith)) (at_end q (omega arith)) (below_out p (q - 1) (places_in t) low) h e after ec
+      (ea ∙ ap (λ (x : List ℕ). paste x t.count (upward p n) n) same)

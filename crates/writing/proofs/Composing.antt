@@ -31,11 +31,11 @@ pub record Begun (end : End) (a b : List ℕ) (s : State) (i : ℕ) (ps : List �
   pub inked : Inked end a b origin s.pen done
   pub whole : elements_of None (spans_of (runs_of ps)) ≡ done ++ ahead s (drop i ps)
   pub fine : FineState s
-  pub few : length done + suc s.more ≤ i
+  pub few : length done + suc s.run.more ≤ i
   pub within : i ≤ length ps
 
 module _ (end : End) (a : List ℕ) (ps : List ℕ) (set : Set ps) where
-  pub begun_start : Begun end a a (record { pen = origin; last = None; lo = get_or ps 0 0; more = 0 }) 1 ps
+  pub begun_start : Begun end a a (record { pen = origin; last = None; run = record { lo = get_or ps 0 0; more = 0 } }) 1 ps
   unfolding upward
   begun_start =
       record {

@@ -5,15 +5,12 @@ use native.Mathlib.Numerals.{add-one}
 use native.Mathlib.Nat.{zero-add}
 use mathlib.Core.Path.{◌≡◌, refl, sym, ap, ◌∙◌}
 use mathlib.Core.List.{List, [], ◌∷◌, ◌++◌, append_assoc}
-use mathlib.Core.Bool.{cond}
 use Rattle.std.specs.Prelude.{Option, Some}
 use lib.ListN.{length, length-append}
-use lib.Dec.{eqb}
 use borrow.Author.Tests.{le-leb, lt-leb}
 use Rattle.lines.specs.Lines.{end_bytes}
 use Rattle.lines.specs.declared.End.{End}
-use Rattle.codes.specs.Places.{prefix_bytes}
-use Rattle.codes.specs.Written.{new_prefix, parted, element_of, elements_of, written_most}
+use Rattle.codes.specs.Written.{parted, element_of, elements_of, written_most}
 use Rattle.writing.specs.Ink.{ink_from}
 use Rattle.writing.proofs.Ink.{ink_on, ink_next}
 use Rattle.writing.proofs.Spelling.{stored_none, stored_on}

@@ -1,21 +1,20 @@
 -- An element's bytes, set one after the other. Assumes nothing.
-use Prim.Native.Nat.{ℕ, zero, suc, ◌+◌, ◌/◌, ◌%◌, ◌≤◌}
+use Prim.Native.Nat.{ℕ, zero, suc, ◌+◌, ◌-◌, ◌/◌, ◌%◌, ◌≤◌}
 use native.Mathlib.Omega.{arith}
-use native.Mathlib.Numerals.{towards_suc}
-use mathlib.Core.Path.{◌≡◌, refl}
-use mathlib.Core.Bool.{Bool, true, false, cond}
+use mathlib.Core.Path.{◌≡◌, refl, sym, ap, ◌∙◌}
+use mathlib.Core.Bool.{true}
 use Rattle.std.specs.Prelude.{Option}
 use mathlib.Core.List.{List, [], ◌∷◌, ◌++◌}
-use lib.ListN.{length, set, length-append}
+use lib.ListN.{length, set, take, drop, length-append}
+use lib.Seq.{sets-eq, take_all}
+use borrow.Rule.Slice.PartMut.{put_mid}
+use Rattle.std.proofs.lemmas.Slice.{put_mid-paste}
 use Rattle.laws.proofs.Stores.{sets_then}
 use Rattle.lines.specs.Bytes.{bytes}
-use Rattle.lines.specs.Lines.{end_bytes}
-use Rattle.lines.specs.declared.End.{End}
-use Rattle.lines.specs.declared.End.TheVariants.{Lf, CrLf, CrCrLf, Nothing}
 use Rattle.calendar.specs.Calendar.{is_time}
 use Rattle.calendar.proofs.Laws.{time_true}
 use Rattle.calendar.specs.declared.Stamp.{Stamp}
-use Rattle.codes.specs.Places.{two_bytes, three_bytes, prefix_bytes}
+use Rattle.codes.specs.Places.{two_bytes, three_bytes}
 use Rattle.codes.specs.Written.{new_prefix, up_to, element_of, purge_element}
 use Rattle.writing.specs.Pen.{Stored, run_from}
 
@@ -27,51 +26,26 @@ module _ (a : List ℕ) (i x : ℕ) where
   pub stored_one : Stored a (set a i x) i (i + 1) (x ∷ [])
   stored_one = record { end = refl; bytes = refl }
 
-  module _ (y : ℕ) where
-    pub stored_two : Stored a (set (set a i x) (i + 1) y) i (i + 2) (x ∷ y ∷ [])
-    stored_two = record { end = refl; bytes = simp towards_suc }
-
-    pub stored_three : (z : ℕ) → Stored a (set (set (set a i x) (i + 1) y) (i + 2) z) i (i + 3) (x ∷ y ∷ z ∷ [])
-    stored_three z = record { end = refl; bytes = simp towards_suc }
+-- bytes copied over a part
+pub stored_part : (a : List ℕ) (i : ℕ) (xs ys : List ℕ) → ys ≡ xs → i + length xs ≤ length a → Stored a (put_mid i (i + length xs - i) a ys) i (i + length xs) xs
+stored_part a i xs ys e h =
+    record {
+      end = refl;
+      bytes =
+          put_mid-paste i (i + length xs - i) a ys xs (length xs) e (omega arith) refl
+          ∙ ap (λ (t : List ℕ). take i a ++ t ++ drop (i + length xs) a) (take_all (length xs) xs (omega arith))
+          ∙ sym (sets-eq xs a i h);
+    }
 
 -- one text behind the other
 pub stored_on : {a b c : List ℕ} {i j k : ℕ} {s t : List ℕ} → Stored a b i j s → Stored b c j k t → Stored a c i k (s ++ t)
 stored_on {a} {i = i} {s = s} {t = t} f g =
     record { end = omega (arith, f.end, g.end, length-append s t); bytes = sets_then a i s t f.bytes f.end g.bytes }
 
--- ---- a line's end
-module _ (a : List ℕ) (i : ℕ) (end : End) where
-  pub stored_lf : end ≡ Lf → Stored a (set a i 10) i (i + 1) (end_bytes end)
-  stored_lf h = rw h (stored_one a i 10)
-
-  pub stored_nothing : end ≡ Nothing → Stored a a i i (end_bytes end)
-  stored_nothing h = rw h (stored_none a i)
-
-  module _ (b : List ℕ) (j : ℕ) where
-    pub stored_crlf : end ≡ CrLf → Stored a b i j (13 ∷ 10 ∷ []) → Stored a b i j (end_bytes end)
-    stored_crlf h s = rw h s
-
-    pub stored_crcrlf : end ≡ CrCrLf → Stored a b i j (13 ∷ 13 ∷ 10 ∷ []) → Stored a b i j (end_bytes end)
-    stored_crcrlf h s = rw h s
-
 -- ---- an element's parts
-module _ (a : List ℕ) (i : ℕ) (last : Option ℕ) (p : ℕ) (t : Bool) (e : new_prefix last p ≡ cond t [] (prefix_bytes p)) where
-  pub stored_known : t ≡ true → Stored a a i i (new_prefix last p)
-  stored_known h = rw (e, h) (stored_none a i)
-
-  pub stored_new : t ≡ false → (b : List ℕ) (k : ℕ) → Stored a b i k (prefix_bytes p) → Stored a b i k (new_prefix last p)
-  stored_new h b k s = rw (e, h) s
-
 up_to_more : (n more : ℕ) → (more ≡ 0 → ⊥) → up_to n more ≡ bytes ">" ++ three_bytes (n + more)
 up_to_more n zero h = absurd (h refl)
 up_to_more n (suc k) h = refl
-
-module _ (a : List ℕ) (i n more : ℕ) where
-  pub stored_single : more ≡ 0 → Stored a a i i (up_to n more)
-  stored_single h = rw h (stored_none a i)
-
-  pub stored_range : (more ≡ 0 → ⊥) → (b : List ℕ) (k : ℕ) → Stored (set a i 62) b (i + 1) k (three_bytes (n + more)) → Stored a b i k (up_to n more)
-  stored_range h b k s = rw (up_to_more n more h) (stored_on (stored_one a i 62) s)
 
 -- how long it is behind its prefix: `nnn-` or `nnn>mmm-`
 module _ (last : Option ℕ) (lo more n : ℕ) (e : n ≡ length (new_prefix last (lo / 1000))) where

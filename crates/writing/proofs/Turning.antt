@@ -22,25 +22,25 @@ use Rattle.writing.proofs.Inking.{inked_none, inked_on}
 
 -- the elements of the open run
 abbrev of_run : State → List (List ℕ)
-of_run s = elements_of s.last (parted s.lo s.more)
+of_run s = elements_of s.last (parted s.run.lo s.run.more)
 
-module _ (end : End) (a : List ℕ) (s : State) (fine : FineState s) (q : ℕ) (h : q < places_end) (t : Bool) (e : t ≡ joins (s.lo + s.more) q) where
-  pub turn_join : t ≡ true → Turned end a a s (record { pen = s.pen; last = s.last; lo = s.lo; more = s.more + 1 }) q
+module _ (end : End) (a : List ℕ) (s : State) (fine : FineState s) (q : ℕ) (h : q < places_end) (t : Bool) (e : t ≡ joins (s.run.lo + s.run.more) q) where
+  pub turn_join : t ≡ true → Turned end a a s (record { pen = s.pen; last = s.last; run = record { lo = s.run.lo; more = s.run.more + 1 } }) q
   turn_join k =
-      let j : joins (s.lo + s.more) q ≡ true = sym e ∙ k in
-      let n : suc (s.lo + s.more) ≡ q = joins_next (s.lo + s.more) q j in
-      let m : q ≡ s.lo + suc s.more = omega arith in
+      let j : joins (s.run.lo + s.run.more) q ≡ true = sym e ∙ k in
+      let n : suc (s.run.lo + s.run.more) ≡ q = joins_next (s.run.lo + s.run.more) q j in
+      let m : q ≡ s.run.lo + suc s.run.more = omega arith in
       record {
         done = [];
         inked = inked_none end a s.pen fine.low;
         keeps = λ qs. ap (λ (ps : List ℕ). elements_of s.last (spans_of (runs_of ps)))
-            (rw (m, add-one) (upward_next s.lo (suc s.more) qs));
+            (rw (m, add-one) (upward_next s.run.lo (suc s.run.more) qs));
         fine = record { joined = rw add-one (open_next fine.joined (rw (← n) at j)); below = omega arith; low = fine.low };
         few = omega arith;
       }
 
-  pub turn_gap : t ≡ false → (b : List ℕ) (r : Pen) → Inked end a b s.pen r (of_run s) → (u : ℕ) → u ≡ s.lo / 1000
-      → Turned end a b s (record { pen = r; last = Some u; lo = q; more = 0 }) q
+  pub turn_gap : t ≡ false → (b : List ℕ) (r : Pen) → Inked end a b s.pen r (of_run s) → (u : ℕ) → u ≡ s.run.lo / 1000
+      → Turned end a b s (record { pen = r; last = Some u; run = record { lo = q; more = 0 } }) q
   unfolding upward
   turn_gap k b r d u eu =
       rw eu (record {
@@ -48,7 +48,7 @@ module _ (end : End) (a : List ℕ) (s : State) (fine : FineState s) (q : ℕ) (
         inked = d;
         keeps = λ qs. elements_close s.last fine.joined (q ∷ qs) (at_gap (sym e ∙ k));
         fine = record { joined = open_one; below = omega arith; low = d.low };
-        few = omega (arith, parted_few s.last s.lo s.more);
+        few = omega (arith, parted_few s.last s.run.lo s.run.more);
       })
 
 module _ (end : End) (a c : List ℕ) (s : State) (r : Pen) (stamp : Stamp) (fine : FineState s) where

@@ -3,13 +3,12 @@ use Rattle.std.specs.Prelude.{Option, None, Some}
 use Prim.Native.Nat.{ℕ, ◌≤◌, ◌<◌}
 use native.Mathlib.Omega.{arith}
 use mathlib.Core.Path.{◌≡◌, sym, ap, ◌∙◌}
-use mathlib.Core.List.{List}
+use mathlib.Core.List.{List, ◌++◌}
 use Rattle.std.specs.Prelude.{Err, Ok}
 use mathlib.Core.Bool.{Bool, true, false}
 use lib.ListN.{length, take, drop}
-use lib.Seq.{sets, take_at}
+use lib.Seq.{take_at}
 use borrow.Author.Tests.{le-leb, lt-leb}
-use Rattle.laws.proofs.Stores.{sets_front}
 use Rattle.refusal.specs.declared.Reason.TheVariants.{OutputShort, OutOfRange}
 use Rattle.refusal.specs.Answer.{Answer, ok, refused, refusal_for, and_then}
 use Rattle.refusal.specs.declared.Reason.{Reason}
@@ -34,9 +33,6 @@ module _ (end : End) (out places : List ℕ) (minute : ℕ) (t : Bool) (et : t �
   writes_no_set n = refuses end out places minute OutOfRange (rw (← et, n))
 
   module _ (y : t ≡ true) (d : Option Date) (ed : d ≡ date_of minute) where
-    pub writes_set : is_set places ≡ true
-    writes_set = sym et ∙ y
-
     block_is : written_block end places minute ≡ dated_block end places d
     unfolding written_block
     block_is = rw (← et, y, ← ed)
@@ -58,10 +54,10 @@ module _ (end : End) (out places : List ℕ) (minute : ℕ) (t : Bool) (et : t �
         unfolding fitting
         writes_short h = refuses end out places minute OutputShort (rule_is ∙ rw (lt-leb (length (written end places date.stamp)) (length out) (omega (arith, c.long))))
 
-        pub writes_whole : n ≤ length out → (after : List ℕ) → after ≡ sets out 0 (take n block) → WritesEnded end out after places minute (Ok n)
+        pub writes_whole : n ≤ length out → (front : List ℕ) → front ≡ take n block → WritesEnded end out (front ++ drop n out) places minute (Ok n)
         unfolding fitting
-        writes_whole h after ea =
+        writes_whole h front ef =
             let text : List ℕ = written end places date.stamp in
             let rule : write_rule end (length out) places minute ≡ ok text = rule_is ∙ rw (le-leb (length text) (length out) (omega (arith, c.long))) in
-            let front : take n block ≡ text = ap (take n) c.bytes ∙ take_at text (drop (length text) before) n (sym c.long) in
-            record { answer = rw rule (ap ok c.long); output = rw rule (ea ∙ rw front (sets_front out text (omega (arith, c.long)))) }
+            let is : front ≡ text = ef ∙ ap (take n) c.bytes ∙ take_at text (drop (length text) before) n (sym c.long) in
+            record { answer = rw rule (ap ok c.long); output = rw rule (rw (is, c.long)) }

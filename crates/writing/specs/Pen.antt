@@ -48,11 +48,11 @@ pub record Inked (end : End) (a b : List ℕ) (p r : Pen) (es : List (List ℕ))
 -- ---- an open run
 -- the elements that are still to be written: those of the open run and of the places qs after it
 abbrev pub ahead : State → List ℕ → List (List ℕ)
-ahead s qs = elements_of s.last (spans_of (runs_of (upward s.lo (suc s.more) ++ qs)))
+ahead s qs = elements_of s.last (spans_of (runs_of (upward s.run.lo (suc s.run.more) ++ qs)))
 
 pub record FineState (s : State) : Type 0 where
-  pub joined : Open s.lo s.more
-  pub below : s.lo + s.more < places_end
+  pub joined : Open s.run.lo s.run.more
+  pub below : s.run.lo + s.run.more < places_end
   pub low : s.pen.col ≤ written_most
 
 -- What one more place leaves: the elements of the run that it closes are written, and the others are still ahead. Each has a place of its own.
@@ -61,7 +61,7 @@ pub record Turned (end : End) (a b : List ℕ) (s r : State) (q : ℕ) : Type 0 
   pub inked : Inked end a b s.pen r.pen done
   pub keeps : (qs : List ℕ) → ahead s (q ∷ qs) ≡ done ++ ahead r qs
   pub fine : FineState r
-  pub few : length done + r.more ≤ suc s.more
+  pub few : length done + r.run.more ≤ suc s.run.more
 
 -- the text that is left where no place follows: two elements at most, the purge, and a line's end
 abbrev pub closing : End → State → Stamp → List ℕ

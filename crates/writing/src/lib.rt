@@ -34,13 +34,19 @@ struct Pen {
     col: usize,
 }
 
-// A run that is still open, `lo` and so many more, after what the pen has written.
+// Places that follow each other: `lo` and so many more.
+#[derive(Clone, Copy)]
+struct Run {
+    lo: u32,
+    more: u32,
+}
+
+// A run that is still open, after what the pen has written, and the prefix of its last element.
 #[derive(Clone, Copy)]
 struct State {
     pen: Pen,
     last: Option<usize>,
-    lo: u32,
-    more: u32,
+    run: Run,
 }
 
 // Whether these are the places of a segment: at least one and at most 120, strictly ascending.
@@ -48,36 +54,32 @@ fn is_set(places: &[u32]) -> bool
     ensures { result ≡ is_set places.now }
 {
     let n = places.len();
-    if n < 1 {
+    if n < 1 || CAPACITY < n {
         return false;
     }
-    if CAPACITY < n {
-        return false;
-    }
+    // By index, since a loop over pairs takes them one by one. This one has no way out, and takes several at a time.
     let mut good = true;
-    let mut i = 1;
-    while i < n {
-        good = good & (places[i - 1] < places[i]);
-        i += 1;
+    for i in 1..n {
+        good &= places[i - 1] < places[i];
     }
     good & (places[n - 1] < PLACES_END)
 }
 
 // Whether p is the prefix of the last element.
 fn is_last(last: Option<usize>, p: u32) -> bool
-    ensures { new_prefix (last) p ≡ cond result [] (prefix_bytes p) }
+    ensures { new_prefix last p ≡ cond result [] (prefix_bytes p) }
 {
     last == Some(codes::wide(p))
 }
 
-// An element's bytes go straight to their places in the output. Were it built by value, a copy of it would wait for each of its bytes.
-fn put_pair(out: &mut [u8], pos: usize, x: u8, y: u8) -> usize
-    requires { pos + 2 ≤ length out.old }
-    ensures { Stored out.old out.new pos result (x ∷ y ∷ []) }
+// Copies bytes to pos, and answers the place behind them.
+pub fn put(out: &mut [u8], pos: usize, bytes: &[u8]) -> usize
+    requires { pos + length bytes.now ≤ length out.old }
+    ensures { Stored out.old out.new pos result bytes.now }
 {
-    out[pos] = x;
-    out[pos + 1] = y;
-    pos + 2
+    let end = pos + bytes.len();
+    out[pos..end].copy_from_slice(bytes);
+    end
 }
 
 fn put_two(out: &mut [u8], pos: usize, n: usize) -> usize
@@ -86,17 +88,7 @@ fn put_two(out: &mut [u8], pos: usize, n: usize) -> usize
 {
     let tens = b'0' + (n / 10) as u8;
     let ones = b'0' + (n % 10) as u8;
-    put_pair(&mut *out, pos, tens, ones)
-}
-
-fn put_bytes(out: &mut [u8], pos: usize, x: u8, y: u8, z: u8) -> usize
-    requires { pos + 3 ≤ length out.old }
-    ensures { Stored out.old out.new pos result (x ∷ y ∷ z ∷ []) }
-{
-    out[pos] = x;
-    out[pos + 1] = y;
-    out[pos + 2] = z;
-    pos + 3
+    put(out, pos, &[tens, ones])
 }
 
 fn put_three(out: &mut [u8], pos: usize, n: u32) -> usize
@@ -106,7 +98,7 @@ fn put_three(out: &mut [u8], pos: usize, n: u32) -> usize
     let hundreds = b'0' + (n / 100) as u8;
     let tens = b'0' + (n / 10 % 10) as u8;
     let ones = b'0' + (n % 10) as u8;
-    put_bytes(&mut *out, pos, hundreds, tens, ones)
+    put(out, pos, &[hundreds, tens, ones])
 }
 
 // The third letter of a prefix.
@@ -125,19 +117,19 @@ fn put_prefix(out: &mut [u8], pos: usize, p: u32) -> usize
 {
     let first = b'A' + (p / 52) as u8;
     let second = b'A' + (p / 2 % 26) as u8;
-    put_bytes(&mut *out, pos, first, second, kind(p))
+    put(out, pos, &[first, second, kind(p)])
 }
 
 // The prefix, unless it is that of the last element.
 fn put_new_prefix(out: &mut [u8], pos: usize, last: Option<usize>, p: u32) -> usize
     requires { (pos + 3 ≤ length out.old) × (p < prefixes) }
-    ensures stored { Stored out.old out.new pos result (new_prefix (last) p) }
+    ensures stored { Stored out.old out.new pos result (new_prefix last p) }
     ensures most { result ≤ pos + 3 }
 {
     if is_last(last, p) {
         return pos;
     }
-    put_prefix(&mut *out, pos, p)
+    put_prefix(out, pos, p)
 }
 
 // The end of a range of so many more after n; a single number has none.
@@ -150,24 +142,25 @@ fn put_end(out: &mut [u8], pos: usize, n: u32, more: u32) -> usize
         return pos;
     }
     out[pos] = b'>';
-    put_three(&mut *out, pos + 1, n + more)
+    put_three(out, pos + 1, n + more)
 }
 
-// The element of lo and so many more.
-fn put_element(out: &mut [u8], pos: usize, last: Option<usize>, lo: u32, more: u32) -> usize
-    requires { (pos + element_most ≤ length out.old) × (lo < places_end) × (lo % 1000 + more ≤ 999) }
-    ensures { Stored out.old out.new pos result (element_of (last) (run_from lo more)) }
+// The element of a run.
+fn put_element(out: &mut [u8], pos: usize, last: Option<usize>, run: Run) -> usize
+    requires room { pos + element_most ≤ length out.old }
+    requires run { (run.lo < places_end) × (run.lo % 1000 + run.more ≤ 999) }
+    ensures { Stored out.old out.new pos result (element_of last (run_from run.lo run.more)) }
 {
-    let n = lo % 1000;
-    let number = put_new_prefix(&mut *out, pos, last, lo / 1000);
-    let range = put_three(&mut *out, number, n);
-    let end = put_end(&mut *out, range, n, more);
+    let n = run.lo % 1000;
+    let number = put_new_prefix(out, pos, last, run.lo / 1000);
+    let range = put_three(out, number, n);
+    let end = put_end(out, range, n, run.more);
     out[end] = b'-';
     end + 1
 }
 
 fn new_prefix_length(last: Option<usize>, p: u32) -> usize
-    ensures value { result ≡ length (new_prefix (last) p) }
+    ensures value { result ≡ length (new_prefix last p) }
     ensures most { result ≤ 3 }
 {
     if is_last(last, p) {
@@ -176,13 +169,13 @@ fn new_prefix_length(last: Option<usize>, p: u32) -> usize
     3
 }
 
-// How many bytes the element of lo and so many more has, `nnn-` or `nnn>mmm-` behind its prefix.
-fn element_length(last: Option<usize>, lo: u32, more: u32) -> usize
-    ensures value { result ≡ length (element_of (last) (run_from lo more)) }
+// How many bytes the element of a run has, `nnn-` or `nnn>mmm-` behind its prefix.
+fn element_length(last: Option<usize>, run: Run) -> usize
+    ensures value { result ≡ length (element_of last (run_from run.lo run.more)) }
     ensures most { result ≤ element_most }
 {
-    let n = new_prefix_length(last, lo / 1000);
-    if more == 0 {
+    let n = new_prefix_length(last, run.lo / 1000);
+    if run.more == 0 {
         return n + 4;
     }
     n + 8
@@ -192,23 +185,11 @@ fn put_purge(out: &mut [u8], pos: usize, stamp: Stamp) -> usize
     requires { (pos + element_most ≤ length out.old) × (is_time stamp ≡ true) }
     ensures { Stored out.old out.new pos result (purge_element stamp) }
 {
-    let hour = put_two(&mut *out, pos, stamp.day);
-    let minute = put_two(&mut *out, hour, stamp.hour);
-    let end = put_two(&mut *out, minute, stamp.minute);
+    let hour = put_two(out, pos, stamp.day);
+    let minute = put_two(out, hour, stamp.hour);
+    let end = put_two(out, minute, stamp.minute);
     out[end] = b'-';
     end + 1
-}
-
-// Copies the first n bytes of a text to pos.
-fn put(out: &mut [u8], pos: usize, text: &[u8], n: usize)
-    requires { (n ≤ length text.now) × (pos + n ≤ length out.old) }
-    ensures { out.new ≡ sets out.old pos (take n text.now) }
-{
-    let mut i = 0;
-    while i < n {
-        out[pos + i] = text[i];
-        i += 1;
-    }
 }
 
 fn end_line(out: &mut [u8], pos: usize, end: End) -> usize
@@ -217,52 +198,10 @@ fn end_line(out: &mut [u8], pos: usize, end: End) -> usize
     ensures most { result ≤ pos + 3 }
 {
     match end {
-        End::Lf => {
-            out[pos] = b'\n';
-            pos + 1
-        }
-        End::CrLf => put_pair(&mut *out, pos, b'\r', b'\n'),
-        End::CrCrLf => put_bytes(&mut *out, pos, b'\r', b'\r', b'\n'),
+        End::Lf => put(out, pos, b"\n"),
+        End::CrLf => put(out, pos, b"\r\n"),
+        End::CrCrLf => put(out, pos, b"\r\r\n"),
         End::Nothing => pos,
-    }
-}
-
-// Where an element of n bytes goes: in this line, or in a new one if it would carry this one too far.
-fn make_room(out: &mut [u8], pen: Pen, n: usize, end: End) -> Pen
-    requires { (n ≤ element_most) × (pen.pos + 3 ≤ length out.old) × (pen.col ≤ written_most) }
-    ensures { Room end out.old out.new pen result n }
-{
-    if pen.col + n <= WRITTEN_MOST {
-        return pen;
-    }
-    let start = end_line(&mut *out, pen.pos, end);
-    Pen { pos: start, col: 0 }
-}
-
-// Sets the element of lo and so many more in the line, or in a new one.
-fn add(out: &mut [u8], pen: Pen, last: Option<usize>, lo: u32, more: u32, end: End) -> Pen
-    requires { (lo < places_end) × (lo % 1000 + more ≤ 999) × (pen.pos + ink_most ≤ length out.old) × (pen.col ≤ written_most) }
-    ensures { Inked end out.old out.new pen result (element_of (last) (run_from lo more) ∷ []) }
-{
-    let n = element_length(last, lo, more);
-    let at = make_room(&mut *out, pen, n, end);
-    let pos = put_element(&mut *out, at.pos, last, lo, more);
-    Pen {
-        pos,
-        col: at.col + n,
-    }
-}
-
-// The same of the purge.
-fn add_purge(out: &mut [u8], pen: Pen, stamp: Stamp, end: End) -> Pen
-    requires { (is_time stamp ≡ true) × (pen.pos + ink_most ≤ length out.old) × (pen.col ≤ written_most) }
-    ensures { Inked end out.old out.new pen result (purge_element stamp ∷ []) }
-{
-    let at = make_room(&mut *out, pen, PURGE_LENGTH, end);
-    let pos = put_purge(&mut *out, at.pos, stamp);
-    Pen {
-        pos,
-        col: at.col + PURGE_LENGTH,
     }
 }
 
@@ -273,59 +212,105 @@ fn joins(p: u32, q: u32) -> bool
     (p + 1 == q) & (p % 1000 != 0) & (q % 1000 != 0)
 }
 
-// Writes a run: one of two as two singles, any other as one element.
-fn flush(out: &mut [u8], pen: Pen, last: Option<usize>, lo: u32, more: u32, end: End) -> Pen
-    requires { Open lo more × (lo + more < places_end) × (pen.pos + 2 * ink_most ≤ length out.old) × (pen.col ≤ written_most) }
-    ensures inked { Inked end out.old out.new pen result (elements_of (last) (parted lo more)) }
-    ensures most { result.pos ≤ pen.pos + 2 * ink_most }
-{
-    if more == 1 {
-        let next = add(&mut *out, pen, last, lo, 0, end);
+impl Run {
+    // One place alone.
+    fn single(lo: u32) -> Run
+        ensures { result ≡ record { lo = lo; more = 0 } }
+    {
+        Run { lo, more: 0 }
+    }
+}
+
+impl Pen {
+    // Where an element of n bytes goes: in this line, or in a new one if it would carry this one too far.
+    fn make_room(self, out: &mut [u8], n: usize, end: End) -> Pen
+        requires { (n ≤ element_most) × (self.pos + 3 ≤ length out.old) × (self.col ≤ written_most) }
+        ensures { Room end out.old out.new self result n }
+    {
+        if self.col + n <= WRITTEN_MOST {
+            return self;
+        }
+        let start = end_line(out, self.pos, end);
+        Pen { pos: start, col: 0 }
+    }
+
+    // Sets the element of a run in the line, or in a new one.
+    fn add(self, out: &mut [u8], last: Option<usize>, run: Run, end: End) -> Pen
+        requires run { (run.lo < places_end) × (run.lo % 1000 + run.more ≤ 999) }
+        requires room { (self.pos + ink_most ≤ length out.old) × (self.col ≤ written_most) }
+        ensures { Inked end out.old out.new self result (element_of last (run_from run.lo run.more) ∷ []) }
+    {
+        let n = element_length(last, run);
+        let at = self.make_room(out, n, end);
+        let pos = put_element(out, at.pos, last, run);
+        Pen {
+            pos,
+            col: at.col + n,
+        }
+    }
+
+    // The same of the purge.
+    fn add_purge(self, out: &mut [u8], stamp: Stamp, end: End) -> Pen
+        requires { (is_time stamp ≡ true) × (self.pos + ink_most ≤ length out.old) × (self.col ≤ written_most) }
+        ensures { Inked end out.old out.new self result (purge_element stamp ∷ []) }
+    {
+        let at = self.make_room(out, PURGE_LENGTH, end);
+        let pos = put_purge(out, at.pos, stamp);
+        Pen {
+            pos,
+            col: at.col + PURGE_LENGTH,
+        }
+    }
+
+    // Writes a run: one of two as two singles, any other as one element.
+    fn flush(self, out: &mut [u8], last: Option<usize>, run: Run, end: End) -> Pen
+        requires run { Open run.lo run.more × (run.lo + run.more < places_end) }
+        requires room { (self.pos + 2 * ink_most ≤ length out.old) × (self.col ≤ written_most) }
+        ensures inked { Inked end out.old out.new self result (elements_of last (parted run.lo run.more)) }
+        ensures most { result.pos ≤ self.pos + 2 * ink_most }
+    {
+        if run.more == 1 {
+            let under = codes::wide(run.lo / 1000);
+            let next = self.add(out, last, Run::single(run.lo), end);
+            return next.add(out, Some(under), Run::single(run.lo + 1), end);
+        }
+        self.add(out, last, run, end)
+    }
+}
+
+impl State {
+    // The next place: it joins the open run, or that is written and the place opens another.
+    fn turn(self, out: &mut [u8], q: u32, end: End) -> State
+        requires { FineState self × (q < places_end) × (self.pen.pos + 2 * ink_most ≤ length out.old) }
+        ensures { Turned end out.old out.new self result q }
+    {
+        let State { pen, last, run } = self;
+        let Run { lo, more } = run;
+        if joins(lo + more, q) {
+            return State {
+                pen,
+                last,
+                run: Run { lo, more: more + 1 },
+            };
+        }
+        let next = pen.flush(out, last, run, end);
         let under = codes::wide(lo / 1000);
-        return add(&mut *out, next, Some(under), lo + 1, 0, end);
+        State {
+            pen: next,
+            last: Some(under),
+            run: Run::single(q),
+        }
     }
-    add(&mut *out, pen, last, lo, more, end)
-}
 
-// The next place: it joins the open run, or that is written and the place opens another.
-fn turn(out: &mut [u8], s: State, q: u32, end: End) -> State
-    requires { FineState s × (q < places_end) × (s.pen.pos + 2 * ink_most ≤ length out.old) }
-    ensures { Turned end out.old out.new s result q }
-{
-    let pen = s.pen;
-    let last = s.last;
-    let lo = s.lo;
-    let more = s.more;
-    if joins(lo + more, q) {
-        return State {
-            pen,
-            last,
-            lo,
-            more: more + 1,
-        };
+    // The open run, the purge and the line's end.
+    fn close(self, out: &mut [u8], stamp: Stamp, end: End) -> usize
+        requires { FineState self × (is_time stamp ≡ true) × (self.pen.pos + close_most ≤ length out.old) }
+        ensures { Closed end out.old out.new self stamp result }
+    {
+        let a = self.pen.flush(out, self.last, self.run, end);
+        let b = a.add_purge(out, stamp, end);
+        end_line(out, b.pos, end)
     }
-    let next = flush(&mut *out, pen, last, lo, more, end);
-    let under = codes::wide(lo / 1000);
-    State {
-        pen: next,
-        last: Some(under),
-        lo: q,
-        more: 0,
-    }
-}
-
-// The open run, the purge and the line's end.
-fn close(out: &mut [u8], s: State, stamp: Stamp, end: End) -> usize
-    requires { FineState s × (is_time stamp ≡ true) × (s.pen.pos + close_most ≤ length out.old) }
-    ensures { Closed end out.old out.new s stamp result }
-{
-    let pen = s.pen;
-    let last = s.last;
-    let lo = s.lo;
-    let more = s.more;
-    let a = flush(&mut *out, pen, last, lo, more, end);
-    let b = add_purge(&mut *out, a, stamp, end);
-    end_line(&mut *out, b.pos, end)
 }
 
 // Writes the block of these places and this purge to the front of out.
@@ -335,19 +320,15 @@ fn compose(out: &mut [u8], places: &[u32], stamp: Stamp, end: End) -> usize
     requires block_most_in_bounds { block_most ≤ length out.old }
     ensures { Composed out.old out.new (written end places.now stamp) result }
 {
-    let first = places[0];
     let mut s = State {
         pen: Pen { pos: 0, col: 0 },
         last: None,
-        lo: first,
-        more: 0,
+        run: Run::single(places[0]),
     };
-    let mut i = 1;
-    while i < places.len() {
-        s = turn(&mut *out, s, places[i], end);
-        i += 1;
+    for place in &places[1..] {
+        s = s.turn(out, *place, end);
     }
-    close(&mut *out, s, stamp, end)
+    s.close(out, stamp, end)
 }
 
 // Writes the block of these places and this purge minute to the front of out, its lines ending so, and answers its length. It is composed apart, so that an output that is
@@ -364,7 +345,7 @@ pub fn write_ended(out: &mut [u8], places: &[u32], purge: usize, end: End) -> Re
     if out.len() < n {
         return Err(Reason::OutputShort.into());
     }
-    put(&mut *out, 0, &block, n);
+    out[..n].copy_from_slice(&block[..n]);
     Ok(n)
 }
 
@@ -372,5 +353,5 @@ pub fn write_ended(out: &mut [u8], places: &[u32], purge: usize, end: End) -> Re
 pub fn write_block(out: &mut [u8], places: &[u32], purge: usize) -> Result<usize, Refusal>
     ensures { Writes out.old out.new places.now purge result }
 {
-    write_ended(&mut *out, places, purge, End::CrCrLf)
+    write_ended(out, places, purge, End::CrCrLf)
 }

@@ -1,4 +1,4 @@
-use Rattle.lines.proofs.Scans.{end_fits, past_last, inside_start, inside_next, inside_here, inside_last}
+use Rattle.lines.proofs.Scans.{past_last, inside_start, inside_next, inside_here, inside_last}
 use Rattle.std.proofs.Common.{rules}
 use Rattle.lines.proofs.find_line.Goals as goal
 
@@ -11,11 +11,8 @@ loop-at-init c = search (inside_start, rules)
 pub returns-then-text-end : goal.returns-then-text-end
 returns-then-text-end c = search (inside_last, rules)
 
-pub overflow_add-end : goal.overflow_add-end
-overflow_add-end c = search (end_fits, rules)
-
-pub returns-then-found : goal.returns-then-found
-returns-then-found c = search (inside_here, rules)
+pub returns-then-is_ended : goal.returns-then-is_ended
+returns-then-is_ended c = search (inside_here, rules)
 
 pub loop-at-preserved : goal.loop-at-preserved
 loop-at-preserved c = search (inside_next, rules)

@@ -1,4 +1,4 @@
-use Rattle.months.proofs.Ways.{passed_none, passed_on, passed_all}
+use Rattle.months.proofs.Ways.{passed_none, passed_on}
 use Rattle.std.proofs.Common.{rules}
 use Rattle.months.proofs.month_start.Goals as goal
 
@@ -7,6 +7,3 @@ loop-passed-init c = search (passed_none, rules)
 
 pub loop-passed-preserved : goal.loop-passed-preserved
 loop-passed-preserved c = search (passed_on, rules)
-
-pub returns : goal.returns
-returns c = search (passed_all, rules)

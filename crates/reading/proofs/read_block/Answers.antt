@@ -1,18 +1,18 @@
-use Rattle.reading.proofs.Blocks.{reads_start, reads_low, reads_less, reads_known, reads_total, reads_over, reads_twice, reads_purge, reads_wrong, over_good}
+use Rattle.reading.proofs.Blocks.{reads_start, reads_low, reads_less, reads_known, reads_held, reads_over, reads_twice, reads_purge, reads_wrong, over_good}
 use Rattle.std.proofs.Common.{rules}
 use Rattle.reading.proofs.read_block.Goals as goal
 
 pub loop-prefix-init : goal.loop-prefix-init
 loop-prefix-init c = search (reads_start, rules)
 
-pub cover-put-requires-clause-low : goal.cover-put-requires-clause-low
-cover-put-requires-clause-low c = search (reads_low, rules)
+pub cover-requires-clause-low : goal.cover-requires-clause-low
+cover-requires-clause-low c = search (reads_low, rules)
 
 pub loop-prefix-smaller : goal.loop-prefix-smaller
 loop-prefix-smaller c = search (reads_less, rules)
 
 pub loop-prefix-preserved : goal.loop-prefix-preserved
-loop-prefix-preserved c = search (reads_total, rules)
+loop-prefix-preserved c = search (reads_held, rules)
 
 pub found_over-requires : goal.found_over-requires
 found_over-requires c = search (reads_known, rules)

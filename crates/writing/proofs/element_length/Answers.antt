@@ -1,16 +1,9 @@
-use native.Mathlib.Omega.{arith}
 use Rattle.writing.proofs.Spelling.{long_single, long_range}
 use Rattle.std.proofs.Common.{rules}
 use Rattle.writing.proofs.element_length.Goals as goal
 
-pub returns-then-more-eq0-clause-value : goal.returns-then-more-eq0-clause-value
-returns-then-more-eq0-clause-value c = search (long_single, rules)
-
-pub returns-then-more-eq0-clause-most : goal.returns-then-more-eq0-clause-most
-returns-then-more-eq0-clause-most c = omega arith
+pub returns-then-run-eq0-clause-value : goal.returns-then-run-eq0-clause-value
+returns-then-run-eq0-clause-value c = search (long_single, rules)
 
 pub returns-clause-value : goal.returns-clause-value
 returns-clause-value c = search (long_range, rules)
-
-pub returns-clause-most : goal.returns-clause-most
-returns-clause-most c = omega arith

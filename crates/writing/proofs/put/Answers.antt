@@ -1,12 +1,6 @@
-use Rattle.laws.proofs.Stores.{copied_start, copied_on, copied_done}
+use Rattle.writing.proofs.Spelling.{stored_part}
 use Rattle.std.proofs.Common.{rules}
 use Rattle.writing.proofs.put.Goals as goal
 
-pub loop-i-init : goal.loop-i-init
-loop-i-init c = search (copied_start, rules)
-
-pub loop-i-preserved : goal.loop-i-preserved
-loop-i-preserved c = search (copied_on, rules)
-
 pub returns : goal.returns
-returns c = search (copied_done, rules)
+returns c = search (stored_part, rules)

@@ -1,5 +1,3 @@
-use native.Mathlib.Omega.{arith}
-use lib.ListN.{length-set}
 use Rattle.writing.proofs.Spelling.{stored_purge, two_days, two_hours, two_minutes}
 use Rattle.std.proofs.Common.{rules}
 use Rattle.writing.proofs.put_purge.Goals as goal
@@ -12,9 +10,6 @@ put_two-minute-requires c = (search rules, search (two_hours, rules))
 
 pub put_two-end-requires : goal.put_two-end-requires
 put_two-end-requires c = (search rules, search (two_minutes, rules))
-
-pub shape_of-out : goal.shape_of-out
-shape_of-out c = simp length-set (omega arith)
 
 pub returns : goal.returns
 returns c = search (stored_purge, rules)

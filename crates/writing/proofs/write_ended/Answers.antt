@@ -2,7 +2,7 @@ use Rattle.std.specs.Prelude.{Some}
 use Rattle.refusal.specs.declared.Reason.TheVariants.{OutOfRange}
 use Rattle.refusal.specs.Answer.{refusal_for}
 use Rattle.refusal.proofs.Exits.{Refuses, none_refused}
-use Rattle.writing.proofs.Writing.{writes_no_set, writes_no_date, writes_set, writes_time, writes_short, writes_whole}
+use Rattle.writing.proofs.Writing.{writes_no_set, writes_no_date, writes_time, writes_short, writes_whole}
 use native.Mathlib.Omega.{arith}
 use mathlib.Core.Path.{◌≡◌}
 use Rattle.std.proofs.Common.{rules}
@@ -15,9 +15,6 @@ pub returns-in_err-date : goal.returns-in_err-date
 returns-in_err-date c =
     let p : Refuses c.date_of.result (refusal_for OutOfRange 0) c.from_residual.result = search (none_refused, rules) in
     rw p.is (search (writes_no_date, rules))
-
-pub compose-n-requires-clause-places_value : goal.compose-n-requires-clause-places_value
-compose-n-requires-clause-places_value c = search (writes_set, rules)
 
 pub compose-n-requires-clause-stamp_value : goal.compose-n-requires-clause-stamp_value
 compose-n-requires-clause-stamp_value c =

@@ -1,7 +1,0 @@
-use mathlib.Core.Path.{refl}
-use Rattle.sets.specs.Held.{vacant}
-use Rattle.reading.proofs.none.Goals as goal
-
-pub returns : goal.returns
-unfolding vacant
-returns c = refl

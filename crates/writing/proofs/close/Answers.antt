@@ -1,6 +1,0 @@
-use Rattle.writing.proofs.Turning.{closed}
-use Rattle.std.proofs.Common.{rules}
-use Rattle.writing.proofs.close.Goals as goal
-
-pub returns : goal.returns
-returns c = search (closed, rules)
