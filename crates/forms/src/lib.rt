@@ -10,7 +10,6 @@ ghost use Rattle.forms.specs.Forms.{SoundBook, Formed, RoomFor, ends_of, Laid, k
 
 use lines::End;
 use segments::Segments;
-use writing::Written;
 
 // The lengths of the written forms of a book's segments, and their sum.
 #[derive(Clone, Copy)]
@@ -30,10 +29,7 @@ fn write_form(book: &[u8], i: usize, end: End, out: &mut [u8]) -> usize
     let places = held.places;
     let count = held.count;
     let minute = held.purge as usize;
-    match writing::write_ended(out, &places[0..count], minute, end) {
-        Written::Length(n) => n,
-        Written::Refused(_) => 0,
-    }
+    writing::write_ended(out, &places[0..count], minute, end).unwrap_or(0)
 }
 
 // Writes the forms of all segments of a sound book, one behind the other. The lines of each end as the first line of the segment in the text, of which there are as many.

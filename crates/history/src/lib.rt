@@ -17,6 +17,7 @@ ghost use Rattle.history.specs.LastStep.{LastStep};
 ghost use Rattle.steps.specs.Calls as calls;
 
 use layout::{Changed, Reply};
+use refusal::{Reason, Refusal};
 
 // Segments, ascending, each with the block of a draft or a step that holds what the segment is to hold.
 #[derive(Clone, Copy)]
@@ -131,39 +132,38 @@ fn commit_found(book: &mut [u8], d: usize, found: Found) -> Changed
 }
 
 // Commits draft d of a sound book.
-fn commit_sound(book: &mut [u8], d: usize) -> Reply
+fn commit_sound(book: &mut [u8], d: usize) -> Result<Reply, Refusal>
     requires { (length book.old ≡ book_length) × (is_sound book.old ≡ true) }
     ensures { Does book.old book.new (calls.commit d) result }
 {
     if d < 1 {
-        return layout::refused(refusal::NO_DRAFT);
+        return Err(Reason::NoDraft.into());
     }
     if 4 < d {
-        return layout::refused(refusal::NO_DRAFT);
+        return Err(Reason::NoDraft.into());
     }
     let open = blocks::size(book[4 + 4 * d]);
     if open == 0 {
-        return layout::refused(refusal::NO_DRAFT);
+        return Err(Reason::NoDraft.into());
     }
     let stale = blocks::size(book[7 + 4 * d]);
     if stale == 1 {
-        return layout::refused(refusal::STALE_DRAFT);
+        return Err(Reason::StaleDraft.into());
     }
     let found = changes_in(book, d);
     let changed = commit_found(book, d, found);
-    Reply::Segments(changed)
+    Ok(Reply::Segments(changed))
 }
 
 // Commits draft d: its changed segments are stored, and it closes.
-pub fn commit(book: &mut [u8], d: usize) -> Reply
+pub fn commit(book: &mut [u8], d: usize) -> Result<Reply, Refusal>
     ensures { Does book.old book.new (calls.commit d) result }
 {
     if book.len() != 25088 {
-        return layout::refused(refusal::WRONG_LENGTH);
+        return Err(Reason::WrongLength.into());
     }
-    let sound = layout::is_sound(book);
-    if !sound {
-        return layout::refused(refusal::NOT_SOUND);
+    if !layout::is_sound(book) {
+        return Err(Reason::NotSound.into());
     }
     commit_sound(book, d)
 }
@@ -195,20 +195,19 @@ fn undo_step(book: &mut [u8], r: usize) -> Changed
 }
 
 // The newest step's blocks go back, the step goes, and drafts that took its segments turn stale.
-pub fn undo(book: &mut [u8]) -> Reply
+pub fn undo(book: &mut [u8]) -> Result<Reply, Refusal>
     ensures { Does book.old book.new calls.undo result }
 {
     if book.len() != 25088 {
-        return layout::refused(refusal::WRONG_LENGTH);
+        return Err(Reason::WrongLength.into());
     }
-    let sound = layout::is_sound(book);
-    if !sound {
-        return layout::refused(refusal::NOT_SOUND);
+    if !layout::is_sound(book) {
+        return Err(Reason::NotSound.into());
     }
     let n = blocks::size(book[24]);
     if n == 0 {
-        return layout::refused(refusal::NO_STEP);
+        return Err(Reason::NoStep.into());
     }
     let changed = undo_step(book, n - 1);
-    Reply::Segments(changed)
+    Ok(Reply::Segments(changed))
 }

@@ -4,26 +4,30 @@ use native.Mathlib.Nat.{add-zero, zero-add}
 use native.Mathlib.Numerals.{add-one}
 use native.Mathlib.Omega.{arith}
 use mathlib.Core.Path.{◌≡◌, refl, sym, ap, ◌∙◌}
-use mathlib.Core.List.{List, [], ◌∷◌, ◌++◌, map, append_assoc}
+use mathlib.Core.List.{List, [], ◌∷◌, ◌++◌, map}
 use Rattle.std.specs.Prelude.{Some}
 use lib.ListN.{length, take, drop, set, get_or, length-append, length-drop}
 use Rattle.std.specs.Prelude.{slice_get}
-use lib.Seq.{drop-drop, sets, length-sets, sets-eq, take-suc, length-take-le, take-set-le, take_at, drop_at}
+use lib.Seq.{sets, length-sets, sets-eq, take-length, take-suc, length-take-le, take-set-le, take_at, drop_at}
 use lib.Dec.{leb}
-use borrow.Rule.Slice.PartMut.{put_mid}
 use mir.Syntax.{w64}
 use mir.Val.{Fits}
 use borrow.Author.Tests.{le-leb, lt-leb}
 use Rattle.laws.proofs.Tests.{either_way, apart}
 use Rattle.laws.proofs.Lists.{drop_take, all_get}
 use Rattle.laws.proofs.Lookups.{some_same}
+use Rattle.laws.proofs.Stores.{Copied, copied_done}
+use Rattle.std.specs.Prelude.{Result, Ok}
+use Rattle.refusal.specs.Answer.{answer_by}
+use Rattle.refusal.specs.declared.Refusal.{Refusal}
 use Rattle.codes.specs.Places.{capacity}
 use Rattle.codes.specs.Block.{content_at}
 use Rattle.reading.specs.Placed.{placed_at}
-use Rattle.reading.specs.Held.{content_for}
+use Rattle.sets.specs.Held.{Good}
+use Rattle.reading.specs.Held.{placed_of}
 use Rattle.reading.proofs.Placing.{content_told}
+use Rattle.sets.specs.declared.Places.{Places}
 use Rattle.reading.specs.declared.Content.{Content}
-use Rattle.reading.specs.declared.Purge.TheVariants as purge
 use Rattle.segments.specs.Seen.{Sized}
 use Rattle.segments.specs.KeptAt.{keep_at, keep_each}
 use Rattle.segments.specs.KeptBy.{places_said, places_from, handed_on}
@@ -35,19 +39,21 @@ pub keep_none : (at : ℕ) (ps ks : List ℕ) → length ks < at + capacity → 
 unfolding keep_at
 keep_none at ps ks h = rw (lt-leb (at + capacity) (length ks) h)
 
-pub keep_all : (at : ℕ) (ps ks d : List ℕ) → at + capacity ≤ length ks → length ps ≤ capacity → d ≡ ps → put_mid at (at + length ps - at) ks d ≡ keep_at at ps ks
+pub keep_all : (at : ℕ) (ps ks d : List ℕ) (i : ℕ) → at + capacity ≤ length ks → Copied ks d at ps (length ps) i → length ps ≤ i → d ≡ keep_at at ps ks
 unfolding keep_at
-keep_all at ps ks d h few e =
-    let n : at + length ps - at ≡ length ps = omega arith in
-    rw (n, le-leb (at + capacity) (length ks) h, e, drop-drop (length ps) at ks) (sym (sets-eq ps ks at (omega arith) ∙ append_assoc (take at ks) ps (drop (at + length ps) ks)))
+keep_all at ps ks d i h v n = rw (le-leb (at + capacity) (length ks) h) (copied_done ks d at ps (length ps) i v n ∙ rw (take-length ps))
+
+-- a segment's places are few enough
+pub keep_few : (t : Places) → Good t → length (take (t.count - 0) t.held) ≤ capacity
+keep_few t g = rw (length-take-le (t.count - 0) t.held (omega (arith, g.few, g.long))) (omega (arith, g.few))
 
 -- ---- one step
 module _ (s : List ℕ) (issue at : ℕ) (ks : List ℕ) where
-  pub kept_one : (a : ℕ) (c : Content) → c ≡ content_for (placed_at s issue a) → (t place : ℕ) → c.purge ≡ purge.At t place → (d : List ℕ)
+  pub kept_content : (a : ℕ) (r : Result Content Refusal) → answer_by placed_of r ≡ placed_at s issue a → (c : Content) → r ≡ Ok c → (d : List ℕ)
       → d ≡ keep_at at (take (c.places.count - 0) c.places.held) ks → d ≡ keep_at at (places_said (content_at s issue a)) ks
-  kept_one a c e t place p d f =
+  kept_content a r e c q d f =
       let n : c.places.count - 0 ≡ c.places.count = omega arith in
-      f ∙ ap (λ (m : ℕ). keep_at at (take m c.places.held) ks) n ∙ rw (← content_told s issue a c e, p)
+      f ∙ ap (λ (m : ℕ). keep_at at (take m c.places.held) ks) n ∙ rw (← content_told s issue a r e, q)
 
 -- ---- step after step
 keep_length : (at : ℕ) (ps ks : List ℕ) → length (keep_at at ps ks) ≡ length ks
@@ -137,6 +143,12 @@ unfolding keep_each
 handing_start own gs ks z = record { left = omega arith; sized = z; same = refl }
 
 module _ (own : List ℕ) (held : List Segment) (count : ℕ) (ks₀ ks : List ℕ) (i : ℕ) (v : Handing own held count ks₀ ks i) where
+  pub handing_done : count ≤ i → ks ≡ handed_on own (take count held) ks₀
+  handing_done h = let e : i ≡ count = omega (arith, v.left) in rw (← e) v.same
+
+  pub handing_length : (d : List ℕ) → length d ≡ length ks → length d ≡ length ks₀
+  handing_length d h = h ∙ ap (λ (l : List ℕ). length l) v.same ∙ kept_length_lem (places_from own) 0 (take i held) ks₀
+
   module _ (h : i < count) (z : Segment) where
     few : (get_or held i z).count ≤ capacity
     few = all_get z i v.sized.each (omega (arith, v.sized.few, v.sized.long))

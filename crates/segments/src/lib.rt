@@ -2,7 +2,8 @@
 #![tactic(auto)]
 
 ghost use Rattle.std.specs.Prelude.{◌≡◌, ◌≤◌, length};
-ghost use Rattle.std.specs.Prelude.{Some};
+ghost use Rattle.std.specs.Prelude.{Some, IfOk, OnErr};
+ghost use Rattle.refusal.specs.Answer.{answer_by};
 ghost use Rattle.codes.specs.Places.{capacity};
 ghost use Rattle.lines.specs.Spans.{span_at};
 ghost use Rattle.lines.specs.Lines.{opens};
@@ -11,12 +12,11 @@ ghost use Rattle.segments.specs.Search.{from_first, after_first, closes};
 ghost use Rattle.segments.specs.KeptAt.{keep_at};
 ghost use Rattle.segments.specs.Searching.{test_of, lines_on, found_lines, Inside, next_in};
 ghost use Rattle.segments.specs.Seen.{unread, segments_for, segments_held, Sized};
-ghost use Rattle.segments.specs.Listing.{Begun, Stepped, seen_from, paper_listed};
-ghost use Rattle.segments.specs.KeptBy.{kept_by, kept_from, handed_on};
+ghost use Rattle.segments.specs.Listing.{Begun, Stepped, seen_from};
+ghost use Rattle.segments.specs.KeptBy.{kept_one, kept_by, kept_from, KeptSome, handed_on};
 
 use lines::{End, Span};
-use reading::Purge;
-use refusal::Refusal;
+use refusal::{Reason, Refusal};
 
 // What a search over lines looks for.
 #[derive(Clone, Copy)]
@@ -107,31 +107,6 @@ pub struct Segments {
     pub count: usize,
 }
 
-#[derive(Clone, Copy)]
-enum Next {
-    One(Segment),
-    Nothing,
-    Refused(Refusal),
-}
-
-#[derive(Clone, Copy)]
-pub enum Ending {
-    Whole,
-    Refused(Refusal),
-}
-
-#[derive(Clone, Copy)]
-pub struct Listed {
-    pub ending: Ending,
-    pub segments: Segments,
-}
-
-fn refused(number: usize, place: usize) -> Next
-    ensures { result ≡ Next.Refused (record { number = number; place = place }) }
-{
-    Next::Refused(Refusal { number, place })
-}
-
 // Keeps the places of a segment in the lent numbers from `at` on, if there is room for 120 there.
 fn keep(kept: &mut [u32], at: usize, places: &[u32])
     requires { (at ≤ 960) × (length places.now ≤ capacity) }
@@ -143,37 +118,34 @@ fn keep(kept: &mut [u32], at: usize, places: &[u32])
 }
 
 // The segment that a line of the text opens; its places are kept from `at` on.
-fn read_segment(text: &[u8], opening: Span, issue: usize, kept: &mut [u32], at: usize) -> Next
+fn read_segment(
+    text: &[u8],
+    opening: Span,
+    issue: usize,
+    kept: &mut [u32],
+    at: usize,
+) -> Result<Segment, Refusal>
     requires start_value { span_at text.now opening.start ≡ Some opening }
     requires at_bound { at ≤ 960 }
     ensures is { Begun text.now issue opening.start result }
-    ensures kept { kept.new ≡ kept_by text.now issue at result kept.old }
+    ensures kept { kept.new ≡ kept_one text.now issue at result kept.old }
 {
     let start = opening.start;
     let ended = opening.ended;
-    let content = reading::read_content(text, start, issue);
+    let content = reading::read_content(text, start, issue)?;
+    let block = after_line(text, content.place);
+    let end = first(text, block, Sought::End).ok_or(Reason::NoEnd.at(start))?;
     let places = content.places;
-    let purge = content.purge;
-    let count = places.count;
-    match purge {
-        Purge::Refused(r) => Next::Refused(r),
-        Purge::At(minute, place) => {
-            let block = after_line(text, place);
-            let Some(end) = first(text, block, Sought::End) else {
-                return refused(refusal::NO_END, start);
-            };
-            let held = places.held;
-            keep(kept, at, &held[0..count]);
-            Next::One(Segment {
-                start,
-                block,
-                past: end.next,
-                ended,
-                purge: minute,
-                count,
-            })
-        }
-    }
+    let held = places.held;
+    keep(kept, at, &held[0..places.count]);
+    Ok(Segment {
+        start,
+        block,
+        past: end.next,
+        ended,
+        purge: content.purge,
+        count: places.count,
+    })
 }
 
 // The next segment from `from` on, of which at most `left` may still come; its places are kept from `at` on.
@@ -184,18 +156,19 @@ fn next_segment(
     left: usize,
     kept: &mut [u32],
     at: usize,
-) -> Next
+) -> Result<Option<Segment>, Refusal>
     requires { at ≤ 960 }
     ensures is { Stepped text.now issue left from result }
     ensures kept { kept.new ≡ kept_by text.now issue at result kept.old }
 {
     let Some(opening) = first_opening(text, from) else {
-        return Next::Nothing;
+        return Ok(None);
     };
     if left == 0 {
-        return refused(refusal::NINTH_SEGMENT, opening.start);
+        return Err(Reason::NinthSegment.at(opening.start));
     }
-    read_segment(text, opening, issue, kept, at)
+    let segment = read_segment(text, opening, issue, kept, at)?;
+    Ok(Some(segment))
 }
 
 // Eight segments that are all zeros.
@@ -213,37 +186,27 @@ pub fn unread() -> [Segment; 8]
 }
 
 // The segments from `from` on: at most eight.
-pub fn read_segments(text: &[u8], from: usize, issue: usize, kept: &mut [u32]) -> Listed
-    ensures is { paper_listed result ≡ seen_from most text.now issue from }
-    ensures segments { result.segments ≡ segments_for (segments_held result.segments) }
-    ensures sized { Sized result.segments }
-    ensures kept { kept.new ≡ kept_from text.now issue 0 (segments_held result.segments) kept.old }
+pub fn read_segments(
+    text: &[u8],
+    from: usize,
+    issue: usize,
+    kept: &mut [u32],
+) -> Result<Segments, Refusal>
+    ensures is { answer_by segments_held result ≡ seen_from most text.now issue from }
+    ensures segments { IfOk result (λ gs. gs ≡ segments_for (segments_held gs)) }
+    ensures sized { IfOk result (λ gs. Sized gs) }
+    ensures kept { IfOk result (λ gs. kept.new ≡ kept_from text.now issue 0 (segments_held gs) kept.old) }
+    ensures refused { OnErr result (KeptSome text.now issue kept.old kept.new) }
 {
     let mut held = unread();
     let mut count = 0;
     let mut at = from;
-    loop {
-        let next = next_segment(text, at, issue, 8 - count, kept, 120 * count);
-        match next {
-            Next::One(segment) => {
-                held[count] = segment;
-                count += 1;
-                at = segment.past;
-            }
-            Next::Nothing => {
-                let segments = Segments { held, count };
-                return Listed {
-                    ending: Ending::Whole,
-                    segments,
-                };
-            }
-            Next::Refused(r) => {
-                let segments = Segments { held, count };
-                let ending = Ending::Refused(r);
-                return Listed { ending, segments };
-            }
-        }
+    while let Some(segment) = next_segment(text, at, issue, 8 - count, kept, 120 * count)? {
+        held[count] = segment;
+        count += 1;
+        at = segment.past;
     }
+    Ok(Segments { held, count })
 }
 
 // Hands the places of the segments on, from the numbers that they were kept in to others.

@@ -8,5 +8,5 @@ returns-then-book-ne25088 c = search (write_short, rules)
 pub write_segment-requires-clause-book_value : goal.write_segment-requires-clause-book_value
 write_segment-requires-clause-book_value c = cc
 
-pub returns : goal.returns
-returns c = search (write_broken, rules)
+pub returns-then-not-is_sound : goal.returns-then-not-is_sound
+returns-then-not-is_sound c = search (write_broken, rules)

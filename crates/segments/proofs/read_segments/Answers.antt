@@ -1,4 +1,6 @@
 use Rattle.segments.proofs.Stepping.{listing_start, listing_on}
+use mathlib.Core.Path.{◌≡◌}
+use Rattle.std.specs.Prelude.{Some, Ok}
 use Rattle.std.proofs.Common.{rules}
 use Rattle.segments.proofs.read_segments.Goals as goal
 
@@ -6,4 +8,6 @@ pub loop-segment-init : goal.loop-segment-init
 loop-segment-init c = search (listing_start, rules)
 
 pub loop-segment-preserved : goal.loop-segment-preserved
-loop-segment-preserved c = search (listing_on, rules)
+loop-segment-preserved c =
+    let q : c.next_segment.result ≡ Ok (Some c.in-Some.segment) = cc in
+    search (listing_on, rules)
