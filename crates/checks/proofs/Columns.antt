@@ -1,13 +1,10 @@
 -- The check's sum by columns: a block is eight rows of 64 bytes. Assumes nothing.
-use Prim.Native.Nat.{ℕ, zero, suc, ◌+◌, ◌*◌, ◌-◌, ◌%◌, ◌≤◌, ◌<◌}
-use native.Mathlib.Nat.{mul-le-mul, ne_of_lt}
+use Prim.Native.Nat.{ℕ, zero, suc, ◌+◌, ◌*◌, ◌-◌, ◌%◌, ◌≤◌}
 use native.Mathlib.Numerals.{add-one}
 use native.Mathlib.Omega.{arith}
 use mathlib.Core.Path.{◌≡◌, refl, sym, ap, ◌∙◌}
 use mathlib.Core.List.{List}
-use lib.ListN.{length, get_or, set, length-set}
-use lib.Seq.{get_or-set_same, get_or-set_other}
-use Rattle.laws.proofs.Tests.{by_order}
+use lib.ListN.{get_or}
 use Rattle.checks.specs.Seal.{sum_to, check_of}
 use Rattle.checks.specs.Columns.{row_byte, column_sum, column_rows, weighed, ColumnsIn}
 
@@ -56,80 +53,6 @@ columns_weighed (suc k) b sums rows v =
 
 columns_sum : (b sums rows : List ℕ) → ColumnsIn b 64 sums rows → weighed 64 sums rows ≡ sum_to 512 b
 columns_sum b sums rows v = columns_weighed 64 b sums rows v ∙ columns_whole b
-
--- ---- the columns are added up
--- a number that is stored
-pub store_same : (l : List ℕ) (j x y : ℕ) → x ≡ y → set l j x ≡ set l j y
-store_same l j x y e = ap (set l j) e
-
--- j columns are added up
-pub record Adding (b sums rows : List ℕ) (j : ℕ) : Type 0 where
-  pub left : j ≤ 64
-  pub room : length sums ≡ 64
-  pub space : length rows ≡ 64
-  pub made : ColumnsIn b j sums rows
-
-pub adding_start : (b sums rows : List ℕ) → length sums ≡ 64 → length rows ≡ 64 → Adding b sums rows 0
-adding_start b sums rows h k =
-    record { left = omega arith; room = h; space = k; made = record { sum = λ j i. absurd (omega arith); row = λ j i. absurd (omega arith) } }
-
--- one value more of a list that is filled from the front
-filled_on : (f : ℕ → ℕ) (l : List ℕ) (j : ℕ) → j < length l → ((i : ℕ) → i < j → get_or l i 0 ≡ f i)
-    → (i : ℕ) → i < j + 1 → get_or (set l j (f j)) i 0 ≡ f i
-filled_on f l j h v i k =
-    by_order i j (λ r. get_or-set_other l j i (f j) 0 (ne_of_lt r) ∙ v i r)
-    (λ r. let e : i ≡ j = omega arith in
-    rw e (get_or-set_same l j (f j) 0 h))
-
-module _ (b sums rows : List ℕ) (j : ℕ) (v : Adding b sums rows j) where
-  pub adding_on : j < 64 → (s r : List ℕ) → s ≡ set sums j (column_sum b j) → r ≡ set rows j (column_rows b j) → Adding b s r (j + 1)
-  adding_on h s r p q =
-      let m : length sums ≡ 64 = v.room in
-      let n : length rows ≡ 64 = v.space in
-      record {
-        left = omega arith;
-        room = ap (λ (l : List ℕ). length l) p ∙ length-set sums j (column_sum b j) ∙ m;
-        space = ap (λ (l : List ℕ). length l) q ∙ length-set rows j (column_rows b j) ∙ n;
-        made = record {
-          sum = λ i k. ap (λ (l : List ℕ). get_or l i 0) p ∙ filled_on (column_sum b) sums j (omega arith) v.made.sum i k;
-          row = λ i k. ap (λ (l : List ℕ). get_or l i 0) q ∙ filled_on (column_rows b) rows j (omega arith) v.made.row i k;
-        };
-      }
-
-  pub adding_done : 64 ≤ j → ColumnsIn b 64 sums rows
-  adding_done h =
-      let e : j ≡ 64 = omega (arith, v.left) in
-      rw e at v.made
-
--- ---- the columns are weighed: two numbers of 16 bits, each 64 times at most
-pub record Weighing (sums rows : List ℕ) (j sum : ℕ) : Type 0 where
-  pub left : j ≤ 64
-  pub is : sum ≡ weighed j sums rows
-  pub small : sum ≤ 8388480 * j
-
-pub weighing_start : (sums rows : List ℕ) → Weighing sums rows 0 0
-unfolding weighed
-weighing_start sums rows = record { left = omega arith; is = refl; small = omega arith }
-
-pub column_small : (j x : ℕ) → j < 64 → x < 65536 → (j + 1) * x ≤ 4194240
-column_small j x h k = mul-le-mul {n₁ = j + 1} {m₁ = x} {n₂ = 64} {m₂ = 65535} (omega arith) (omega arith)
-
-module _ (sums rows : List ℕ) (j sum : ℕ) (v : Weighing sums rows j sum) where
-  pub weighing_on : j < 64 → (x y : ℕ) → x ≡ get_or sums j 0 → y ≡ get_or rows j 0 → x < 65536 → y < 65536
-      → Weighing sums rows (j + 1) (sum + ((j + 1) * x + 64 * y))
-  unfolding weighed
-  weighing_on h x y p q m n =
-      let t : (j + 1) * x ≤ 4194240 = column_small j x h m in
-      let s : sum ≤ 8388480 * j = v.small in
-      record { left = omega arith; is = rw (add-one, ← p, ← q, ← v.is); small = omega arith }
-
-  pub weighing_done : 64 ≤ j → sum ≡ weighed 64 sums rows
-  weighing_done h =
-      let e : j ≡ 64 = omega (arith, v.left) in
-      rw e at v.is
-
-  pub weighing_small : sum ≤ 536862720
-  weighing_small = omega (arith, v.left, v.small)
 
 -- ---- the check: the sum of all bytes, without the last two
 pub sum_more : (i : ℕ) (b : List ℕ) → sum_to (i + 1) b ≡ sum_to i b + (i + 1) * get_or b i 0

@@ -7,8 +7,7 @@ use native.Mathlib.Nat.{ne_of_lt, ne_of_gt}
 use native.Mathlib.Omega.{arith}
 use lib.ListN.{length, get_or, set, length-set}
 use lib.Seq.{get_or-set_other, set-set, set_comm}
-use lib.Dec.{eqb}
-use Rattle.checks.specs.Seal.{sum_to, check_of, sealed, checked}
+use Rattle.checks.specs.Seal.{sum_to, check_of, sealed}
 
 -- the sum does not see a store behind it
 sum_set : (n i v : ℕ) (b : List ℕ) → n ≤ i → sum_to n (set b i v) ≡ sum_to n b
@@ -46,8 +45,3 @@ sealed_again m x y =
     ∙ ap (λ (l : List ℕ). set l 511 (check_of m / 256 % 256)) (set_comm (set m 510 x) 511 510 y (check_of m % 256) (ne_of_gt (omega arith)))
     ∙ set-set (set (set m 510 x) 510 (check_of m % 256)) 511 y (check_of m / 256 % 256)
     ∙ ap (λ (l : List ℕ). set l 511 (check_of m / 256 % 256)) (set-set m 510 x (check_of m % 256))
-
--- ---- the check beside the one that a block holds
-pub checked_is : (b : List ℕ) (c low high : ℕ) → c ≡ check_of b → low ≡ get_or b 510 0 → high ≡ get_or b 511 0 → eqb c (low + 256 * high) ≡ checked b
-unfolding checked
-checked_is b c low high e l h = rw (e, l, h)

@@ -5,7 +5,7 @@ use mathlib.Core.List.{List, [], ◌∷◌}
 use Prim.Native.Nat.{ℕ, zero, suc, ◌+◌, ◌*◌, ◌/◌, ◌%◌, ◌-◌, ◌≤◌, ◌<◌}
 use native.Mathlib.Nat.{ne_of_gt}
 use native.Mathlib.Omega.{arith}
-use lib.ListN.{length, get_or, set}
+use lib.ListN.{length, get_or, set, drop}
 use lib.Seq.{slice, set-get_or, get_or-set_other}
 use lib.Bits.{bit_or}
 use lib.Dec.{eqb}
@@ -96,39 +96,34 @@ joined_zero some (x ∷ xs) = joined_zero (bit_or some x) xs ∙ rw or_zero (and
 
 -- j columns are looked at
 pub record Blank (b : List ℕ) (j some : ℕ) : Type 0 where
-  pub left : j ≤ 64
   pub seen : eqb some 0 ≡ true → (i : ℕ) → i < j → all_zero (looked b i) ≡ true
   pub none : ((i : ℕ) → i < 510 → get_or b i 0 ≡ 0) → eqb some 0 ≡ true
 
-pub blank_start : (b : List ℕ) → Blank b 0 0
-blank_start b = record { left = omega arith; seen = λ e i h. absurd (omega arith); none = λ z. refl }
-
 module _ (b : List ℕ) (j some : ℕ) (v : Blank b j some) where
-  joined_on : j < 64 → Blank b (j + 1) (joined some (looked b j))
-  joined_on h =
-      let all : Bool = all_zero (looked b j) in
-      let e : eqb (joined some (looked b j)) 0 ≡ (eqb some 0 && all) = joined_zero some (looked b j) in
+  joined_more : j < 64 → (all : ℕ) → eqb all 0 ≡ all_zero (looked b j) → Blank b (j + 1) (bit_or some all)
+  joined_more h all e =
+      let zero : Bool = all_zero (looked b j) in
+      let o : eqb (bit_or some all) 0 ≡ (eqb some 0 && zero) = rw (← e) (or_zero some all) in
       record {
-        left = omega arith;
         seen = λ s i k.
-            let both : (eqb some 0 && all) ≡ true = sym e ∙ s in
-            by_order i j (λ r. v.seen (and_left (eqb some 0) all both) i r)
+            let both : (eqb some 0 && zero) ≡ true = sym o ∙ s in
+            by_order i j (λ r. v.seen (and_left (eqb some 0) zero both) i r)
             (λ r. let same : i ≡ j = omega arith in
-            rw same (and_right (eqb some 0) all both));
-        none = λ z. e ∙ rw (v.none z, looked_zero b j z h);
+            rw same (and_right (eqb some 0) zero both));
+        none = λ z. o ∙ rw (v.none z, looked_zero b j z h);
       }
 
-  pub blank_on : j < 64 → Blank b (j + 1)
-      (bit_or (bit_or (bit_or (bit_or (bit_or (bit_or (bit_or (bit_or some (get_or b j 0)) (get_or b (64 + j) 0)) (get_or b (128 + j) 0)) (get_or b (192 + j) 0))
-      (get_or b (256 + j) 0)) (get_or b (320 + j) 0)) (get_or b (384 + j) 0)) (get_or b (446 + j) 0))
-  unfolding joined looked
-  blank_on h = joined_on h
+  pub blank_more : j < 64 → Blank b (j + 1)
+      (bit_or some (bit_or (bit_or (bit_or (bit_or (bit_or (bit_or (bit_or (get_or b j 0) (get_or b (64 + j) 0)) (get_or b (128 + j) 0)) (get_or b (192 + j) 0))
+      (get_or b (256 + j) 0)) (get_or b (320 + j) 0)) (get_or b (384 + j) 0)) (get_or b (446 + j) 0)))
+  unfolding joined looked all_zero
+  blank_more h = joined_more h (joined (get_or b j 0) (drop 1 (looked b j))) (joined_zero (get_or b j 0) (drop 1 (looked b j)))
 
-  pub blank_done : length b ≡ block_length → 64 ≤ j → eqb some 0 ≡ all_zero (slice 0 510 b)
-  blank_done l h =
-      same_test (eqb some 0) (all_zero (slice 0 510 b))
-      (λ e. slice_zero 0 510 b (omega arith) (λ i p q. zero_looked b (λ k g. v.seen e k (omega arith)) i q))
-      (λ e. v.none (λ i q. zero_in 0 510 b e i (omega arith) q))
+pub blank_all : (b : List ℕ) (j some : ℕ) → Blank b j some → 64 ≤ j → length b ≡ block_length → eqb some 0 ≡ all_zero (slice 0 510 b)
+blank_all b j some v h l =
+    same_test (eqb some 0) (all_zero (slice 0 510 b))
+    (λ e. slice_zero 0 510 b (omega arith) (λ i p q. zero_looked b (λ k g. v.seen e k (omega arith)) i q))
+    (λ e. v.none (λ i q. zero_in 0 510 b e i (omega arith) q))
 
 -- ---- the seal of zeros
 pub sealed_zero : (b : List ℕ) → ((i : ℕ) → i < 512 → get_or b i 0 ≡ 0) → sealed b ≡ set b 510 1

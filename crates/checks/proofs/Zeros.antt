@@ -1,15 +1,14 @@
 -- Zeros: the test and each byte, the scan of a part, a list filled with zeros. Assumes nothing.
 use mathlib.Core.Path.{◌≡◌, refl, sym, ap, ◌∙◌}
-use mathlib.Core.Bool.{true, ◌&&◌, and-true, and_assoc}
-use mathlib.Core.List.{List, [], ◌∷◌, ◌++◌, append-nil}
+use mathlib.Core.Bool.{true, ◌&&◌}
+use mathlib.Core.List.{List, [], ◌∷◌}
 use Prim.Native.Nat.{ℕ, zero, suc, ◌+◌, ◌-◌, ◌≤◌, ◌<◌}
-use native.Mathlib.Numerals.{add-one}
 use native.Mathlib.Omega.{arith}
 use lib.Bits.{bit_or, bit_and, or_add_and, and_le_l, and_le_r}
-use lib.ListN.{length, take, drop, get_or, set, replicate, length-replicate, get_or-replicate, length-set}
-use lib.Seq.{slice, slice-cons, slice_empty, length-slice, get_or-take, get_or-drop, ext_get_or, drop-length}
+use lib.ListN.{length, take, get_or, replicate, length-replicate, get_or-replicate}
+use lib.Seq.{slice, length-slice, get_or-take, get_or-drop, ext_get_or}
 use lib.Dec.{eqb}
-use borrow.Author.Fill.{fill_more}
+use Rattle.std.proofs.lemmas.List.Folds.{list_all_more}
 use borrow.Author.Tests.{eqb-true, eq-eqb}
 use Rattle.laws.proofs.Tests.{by_order, same_test, and_left, and_right}
 use Rattle.checks.specs.Seal.{all_zero}
@@ -57,14 +56,7 @@ pub zeros_ext : (m : ℕ) (l : List ℕ) → length l ≡ m → ((i : ℕ) → i
 zeros_ext m l e h =
     ext_get_or 0 l (replicate m 0) (e ∙ sym (length-replicate m 0)) (λ i k. let g : i < m = omega arith in h i g ∙ sym (get_or-replicate m i 0 0 g))
 
--- ---- zeros: the answer for the whole part is that for the bytes before i, and from i on
-pub record Zeros (b : List ℕ) (from to i some : ℕ) : Type 0 where
-  pub left : i ≤ to
-  pub rest : all_zero (slice from to b) ≡ (eqb some 0 && all_zero (slice i to b))
-
-pub zeros_start : (b : List ℕ) (from to : ℕ) → from ≤ to → Zeros b from to from 0
-zeros_start b from to h = record { left = h; rest = refl }
-
+-- ---- the scan of a list: bytes joined are zero if each is
 -- no bit is set in either of two numbers
 pub or_zero : (x y : ℕ) → eqb (bit_or x y) 0 ≡ (eqb x 0 && eqb y 0)
 or_zero x y =
@@ -79,41 +71,7 @@ or_zero x y =
     let q : y ≡ 0 = eqb-true y 0 (and_right (eqb x 0) (eqb y 0) h) in
     eq-eqb (bit_or x y) 0 (omega arith))
 
-module _ (b : List ℕ) (from to i some : ℕ) (v : Zeros b from to i some) where
-  pub zeros_done : to ≤ i → eqb some 0 ≡ all_zero (slice from to b)
-  unfolding all_zero
-  zeros_done h =
-      let e : i ≡ to = omega (arith, v.left) in
-      sym (v.rest ∙ ap (λ (j : ℕ). eqb some 0 && all_zero (slice j to b)) e ∙ ap (λ (l : List ℕ). eqb some 0 && all_zero l) (slice_empty to b) ∙ and-true (eqb some 0))
-
-  pub zeros_on : to ≤ length b → i < to → Zeros b from to (i + 1) (bit_or some (get_or b i 0))
-  unfolding all_zero
-  zeros_on k h =
-      record {
-        left = omega arith;
-        rest =
-            v.rest
-            ∙ ap (λ (l : List ℕ). eqb some 0 && all_zero l) (slice-cons i to b 0 h k)
-            ∙ sym (and_assoc (eqb some 0) (eqb (get_or b i 0) 0) (all_zero (slice (suc i) to b)))
-            ∙ rw (or_zero some (get_or b i 0), add-one);
-      }
-
--- ---- zeros: i bytes are zero
-pub record Cleared (b₀ b : List ℕ) (i : ℕ) : Type 0 where
-  pub left : i ≤ length b₀
-  pub long : length b ≡ length b₀
-  pub bytes : b ≡ replicate i 0 ++ drop i b₀
-
-pub cleared_start : (b : List ℕ) → Cleared b b 0
-cleared_start b = record { left = omega arith; long = refl; bytes = refl }
-
-module _ (b₀ b : List ℕ) (i : ℕ) (v : Cleared b₀ b i) where
-  pub cleared_on : i < length b → Cleared b₀ (set b i 0) (i + 1)
-  cleared_on h =
-      let e : length b ≡ length b₀ = v.long in
-      record { left = omega arith; long = simp length-set v.long; bytes = ap (λ (l : List ℕ). set l i 0) v.bytes ∙ fill_more i 0 b₀ (omega arith) }
-
-  pub cleared_done : length b ≤ i → b ≡ replicate (length b₀) 0
-  cleared_done h =
-      let e : i ≡ length b₀ = omega (arith, v.left, v.long) in
-      v.bytes ∙ ap (λ (n : ℕ). replicate n 0 ++ drop n b₀) e ∙ ap (λ (l : List ℕ). replicate (length b₀) 0 ++ l) (drop-length b₀) ∙ append-nil _
+pub zeros_more : (some : ℕ) (l : List ℕ) (i : ℕ) → i < length l → eqb some 0 ≡ all_zero (take i l)
+    → eqb (bit_or some (get_or l i 0)) 0 ≡ all_zero (take (i + 1) l)
+unfolding all_zero
+zeros_more some l i h e = or_zero some (get_or l i 0) ∙ rw e (sym (list_all_more (λ x. eqb x 0) l i 0 h))

@@ -1,5 +1,6 @@
 -- Document 01, "The book": the length of a block, its check, and zeros.
-use Rattle.std.specs.Prelude.{ℕ, zero, suc, ◌+◌, ◌*◌, ◌/◌, ◌%◌, List, [], ◌∷◌, Bool, true, ◌&&◌, get_or, set, eqb}
+use Rattle.std.specs.Prelude.{ℕ, zero, suc, ◌+◌, ◌*◌, ◌/◌, ◌%◌, List, Bool, get_or, set, eqb}
+use Rattle.std.specs.List.{list_all}
 
 -- "49 blocks of 512 bytes (25,088)"
 abbrev pub block_length : ℕ
@@ -24,5 +25,4 @@ checked b = eqb (check_of b) (get_or b 510 0 + 256 * get_or b 511 0)
 
 -- ---- "Unnamed and unused bytes are zero."
 unfoldable pub all_zero : List ℕ → Bool
-all_zero [] = true
-all_zero (x ∷ xs) = eqb x 0 && all_zero xs
+all_zero l = list_all (λ x. eqb x 0) l

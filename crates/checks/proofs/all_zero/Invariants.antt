@@ -1,9 +1,8 @@
-use Prim.Native.Nat.{◌-◌}
-use Rattle.checks.proofs.Zeros.{Zeros}
+use mathlib.Core.Path.{◌≡◌}
+use lib.ListN.{take}
+use lib.Dec.{eqb}
+use Rattle.checks.specs.Seal.{all_zero}
 use Rattle.checks.proofs.all_zero.Given as goal
 
-abbrev pub invariant-loop-i : goal.invariant-loop-i
-invariant-loop-i l = Zeros l.b l.from l.to l.i l.some
-
-abbrev pub decreases-loop-i : goal.decreases-loop-i
-decreases-loop-i l = l.to - l.i
+abbrev pub invariant-loop-x : goal.invariant-loop-x
+invariant-loop-x l = eqb l.some 0 ≡ all_zero (take l.x-index l.b)

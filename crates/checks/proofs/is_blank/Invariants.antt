@@ -1,9 +1,5 @@
-use Prim.Native.Nat.{◌-◌}
 use Rattle.checks.proofs.Unused.{Blank}
 use Rattle.checks.proofs.is_blank.Given as goal
 
 abbrev pub invariant-loop-j : goal.invariant-loop-j
 invariant-loop-j l = Blank l.b l.j l.some
-
-abbrev pub decreases-loop-j : goal.decreases-loop-j
-decreases-loop-j l = 64 - l.j
