@@ -51,18 +51,16 @@ fn add_columns(b: &Block, sums: &mut [u16; 64], rows: &mut [u16; 64])
 fn weigh_columns(sums: &[u16; 64], rows: &[u16; 64]) -> u32
     ensures { (result ≡ weighed 64 sums.now rows.now) × (result ≤ 536862720) }
 {
-    let mut sum: u32 = 0;
+    let mut sum = 0;
     for j in 0..64 {
-        let x = u32::from(sums[j]);
-        let y = u32::from(rows[j]);
-        sum += (j as u32 + 1) * x + 64 * y;
+        sum += (j as u32 + 1) * u32::from(sums[j]) + 64 * u32::from(rows[j]);
     }
     sum
 }
 
 // The check of a block: 1 and the weighted sum of its first 510 bytes, modulo 65,521. The columns hold all 512 bytes: the check's own two are taken out again.
 #[tactic(auto, using(crate::proofs::Columns::low_in, crate::proofs::Columns::high_in, crate::proofs::Columns::check_columns))]
-fn check(b: &Block) -> u32
+fn check(b: &Block) -> u16
     ensures { result ≡ check_of b.now }
 {
     let mut sums = [0; 64];
@@ -71,17 +69,14 @@ fn check(b: &Block) -> u32
     let sum = weigh_columns(&sums, &rows);
     let low = u32::from(b[510]);
     let high = u32::from(b[511]);
-    (1 + sum - 511 * low - 512 * high) % 65521
+    ((1 + sum - 511 * low - 512 * high) % 65521) as u16
 }
 
 #[tactic(auto, unfolding(crate::specs::Seal::checked))]
 pub fn is_checked(b: &Block) -> bool
     ensures { result ≡ checked b.now }
 {
-    let c = check(b);
-    let low = u32::from(b[510]);
-    let high = u32::from(b[511]);
-    c == low + 256 * high
+    check(b) == u16::from_le_bytes([b[510], b[511]])
 }
 
 // Whether all bytes are zero. Every byte is looked at, since a loop with no way out takes many bytes at a time.
@@ -130,7 +125,7 @@ pub fn is_unused(b: &Block) -> bool
 pub fn seal(b: &mut Block)
     ensures { b.new ≡ sealed b.old }
 {
-    let c = check(b);
-    b[510] = (c % 256) as u8;
-    b[511] = (c / 256 % 256) as u8;
+    let [low, high] = check(b).to_le_bytes();
+    b[510] = low;
+    b[511] = high;
 }
