@@ -1,6 +1,6 @@
 -- An unused block: zeros, whose check is 1. Its test, and its seal. Assumes nothing.
 use mathlib.Core.Path.{◌≡◌, refl, sym, ap, ◌∙◌}
-use mathlib.Core.Bool.{Bool, true, false, ◌&&◌, and-true, and-false, and_assoc}
+use mathlib.Core.Bool.{Bool, true, false, ◌&&◌, and-true, and-false}
 use mathlib.Core.List.{List, [], ◌∷◌}
 use Prim.Native.Nat.{ℕ, zero, suc, ◌+◌, ◌*◌, ◌/◌, ◌%◌, ◌-◌, ◌≤◌, ◌<◌}
 use native.Mathlib.Nat.{ne_of_gt}
@@ -13,7 +13,8 @@ use borrow.Author.Tests.{eqb-true, eq-eqb}
 use Rattle.laws.proofs.Tests.{by_order, same_test, and_left, and_right}
 use Rattle.checks.specs.Seal.{block_length, sum_to, check_of, sealed, checked, all_zero}
 use Rattle.checks.specs.Unused.{is_unused}
-use Rattle.checks.proofs.Zeros.{all_zero_at, zero_in, slice_zero, or_zero}
+use Rattle.std.specs.List.{fold}
+use Rattle.checks.proofs.Zeros.{all_zero_at, zero_in, slice_zero, or_zero, zeros_from}
 
 -- ---- the check of zeros
 sum_zero : (n : ℕ) (b : List ℕ) → ((i : ℕ) → i < n → get_or b i 0 ≡ 0) → sum_to n b ≡ 0
@@ -84,16 +85,6 @@ zero_looked b z i h =
     (λ g. by_order i 448 (λ k. same 384 g (at 6 384 g k))
     (λ g. same 446 (omega arith) (at 7 446 (omega arith) (omega arith)))))))))
 
--- several bytes joined are zero if each is
-joined : ℕ → List ℕ → ℕ
-joined some [] = some
-joined some (x ∷ xs) = joined (bit_or some x) xs
-
-joined_zero : (some : ℕ) (xs : List ℕ) → eqb (joined some xs) 0 ≡ (eqb some 0 && all_zero xs)
-unfolding joined all_zero
-joined_zero some [] = sym (and-true (eqb some 0))
-joined_zero some (x ∷ xs) = joined_zero (bit_or some x) xs ∙ rw or_zero (and_assoc (eqb some 0) (eqb x 0) (all_zero xs))
-
 -- j columns are looked at
 pub record Blank (b : List ℕ) (j some : ℕ) : Type 0 where
   pub seen : eqb some 0 ≡ true → (i : ℕ) → i < j → all_zero (looked b i) ≡ true
@@ -116,8 +107,8 @@ module _ (b : List ℕ) (j some : ℕ) (v : Blank b j some) where
   pub blank_more : j < 64 → Blank b (j + 1)
       (bit_or some (bit_or (bit_or (bit_or (bit_or (bit_or (bit_or (bit_or (get_or b j 0) (get_or b (64 + j) 0)) (get_or b (128 + j) 0)) (get_or b (192 + j) 0))
       (get_or b (256 + j) 0)) (get_or b (320 + j) 0)) (get_or b (384 + j) 0)) (get_or b (446 + j) 0)))
-  unfolding joined looked all_zero
-  blank_more h = joined_more h (joined (get_or b j 0) (drop 1 (looked b j))) (joined_zero (get_or b j 0) (drop 1 (looked b j)))
+  unfolding looked all_zero
+  blank_more h = joined_more h (fold bit_or (get_or b j 0) (drop 1 (looked b j))) (zeros_from (drop 1 (looked b j)) (get_or b j 0))
 
 pub blank_all : (b : List ℕ) (j some : ℕ) → Blank b j some → 64 ≤ j → length b ≡ block_length → eqb some 0 ≡ all_zero (slice 0 510 b)
 blank_all b j some v h l =

@@ -1,6 +1,6 @@
 -- Zeros: the test and each byte, the scan of a part, a list filled with zeros. Assumes nothing.
 use mathlib.Core.Path.{◌≡◌, refl, sym, ap, ◌∙◌}
-use mathlib.Core.Bool.{true, ◌&&◌}
+use mathlib.Core.Bool.{true, ◌&&◌, and-true, and_assoc}
 use mathlib.Core.List.{List, [], ◌∷◌}
 use Prim.Native.Nat.{ℕ, zero, suc, ◌+◌, ◌-◌, ◌≤◌, ◌<◌}
 use native.Mathlib.Omega.{arith}
@@ -8,7 +8,7 @@ use lib.Bits.{bit_or, bit_and, or_add_and, and_le_l, and_le_r}
 use lib.ListN.{length, take, get_or, replicate, length-replicate, get_or-replicate}
 use lib.Seq.{slice, length-slice, get_or-take, get_or-drop, ext_get_or}
 use lib.Dec.{eqb}
-use Rattle.std.proofs.lemmas.List.Folds.{list_all_more}
+use Rattle.std.specs.List.{fold}
 use borrow.Author.Tests.{eqb-true, eq-eqb}
 use Rattle.laws.proofs.Tests.{by_order, same_test, and_left, and_right}
 use Rattle.checks.specs.Seal.{all_zero}
@@ -56,7 +56,7 @@ pub zeros_ext : (m : ℕ) (l : List ℕ) → length l ≡ m → ((i : ℕ) → i
 zeros_ext m l e h =
     ext_get_or 0 l (replicate m 0) (e ∙ sym (length-replicate m 0)) (λ i k. let g : i < m = omega arith in h i g ∙ sym (get_or-replicate m i 0 0 g))
 
--- ---- the scan of a list: bytes joined are zero if each is
+-- ---- the scan of a list
 -- no bit is set in either of two numbers
 pub or_zero : (x y : ℕ) → eqb (bit_or x y) 0 ≡ (eqb x 0 && eqb y 0)
 or_zero x y =
@@ -71,7 +71,11 @@ or_zero x y =
     let q : y ≡ 0 = eqb-true y 0 (and_right (eqb x 0) (eqb y 0) h) in
     eq-eqb (bit_or x y) 0 (omega arith))
 
-pub zeros_more : (some : ℕ) (l : List ℕ) (i : ℕ) → i < length l → eqb some 0 ≡ all_zero (take i l)
-    → eqb (bit_or some (get_or l i 0)) 0 ≡ all_zero (take (i + 1) l)
+-- several bytes joined are zero if each is
+pub zeros_from : (l : List ℕ) (some : ℕ) → eqb (fold bit_or some l) 0 ≡ (eqb some 0 && all_zero l)
 unfolding all_zero
-zeros_more some l i h e = or_zero some (get_or l i 0) ∙ rw e (sym (list_all_more (λ x. eqb x 0) l i 0 h))
+zeros_from [] some = sym (and-true (eqb some 0))
+zeros_from (x ∷ xs) some = zeros_from xs (bit_or some x) ∙ rw or_zero (and_assoc (eqb some 0) (eqb x 0) (all_zero xs))
+
+pub zeros_joined : (l : List ℕ) → eqb (fold bit_or 0 l) 0 ≡ all_zero l
+zeros_joined l = zeros_from l 0

@@ -80,15 +80,11 @@ pub fn is_checked(b: &Block) -> bool
 }
 
 // Whether all bytes are zero. Every byte is looked at, since a loop with no way out takes many bytes at a time.
-#[tactic(auto, using(crate::proofs::Zeros::zeros_more), unfolding(crate::specs::Seal::all_zero))]
+#[tactic(auto, using(crate::proofs::Zeros::zeros_joined))]
 pub fn all_zero(b: &[u8]) -> bool
     ensures { result ≡ all_zero b.now }
 {
-    let mut some = 0;
-    for x in b {
-        some |= *x;
-    }
-    some == 0
+    b.iter().fold(0, |some, x| some | x) == 0
 }
 
 // Whether the first 510 bytes of a block are zero. Each turn joins one byte of each of eight rows, so that the loop is short and made of whole vectors.
