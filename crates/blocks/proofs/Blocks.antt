@@ -1,16 +1,14 @@
 -- A book as the list of its blocks: the laws of `block_of`, `put_block`, `cut` and `join`. Assumes nothing.
-use mathlib.Core.Path.{◌≡◌, refl, sym, ap, ap₂, ◌∙◌}
-use mathlib.Core.Bool.{Bool}
+use mathlib.Core.Path.{◌≡◌, refl, sym, ap, ◌∙◌}
 use mathlib.Core.Logic.{◌≢◌}
 use mathlib.Core.List.{List, [], ◌∷◌, ◌++◌, append_assoc}
 use Prim.Native.Nat.{ℕ, zero, suc, ◌+◌, ◌*◌, ◌-◌, ◌≤◌, ◌<◌}
-use native.Mathlib.Nat.{add-sub_cancel_left, suc-mul, le_of_suc-le-suc, not-suc-le-zero, suc-ne-zero}
+use native.Mathlib.Nat.{suc-mul, le_of_suc-le-suc, not-suc-le-zero, suc-ne-zero}
 use native.Mathlib.Omega.{arith}
 use lib.ListN.{length, take, drop, get_or, set, length-drop, take-append-drop}
-use Rattle.blocks.proofs.Chunks.{set_append_right}
-use lib.Seq.{get_or-take, get_or-drop, set-append_left, take_at, drop_at, take-add, drop-drop, length-take-le, ext_get_or, get_or-set_same, get_or-set_other}
-use borrow.Rule.Slice.PartMut.{put_mid, same_len_mid}
-use Rattle.codes.specs.Places.{capacity}
+use lib.Seq.{get_or-take, get_or-drop, take_at, drop_at, take-add, drop-drop, length-take-le, ext_get_or, get_or-set_same, get_or-set_other}
+use borrow.Rule.Slice.PartMut.{same_len_mid}
+use Rattle.std.specs.List.{copy_within}
 use Rattle.blocks.specs.Block.{block_of, put_block}
 
 -- a book as the list of its blocks, and back
@@ -27,34 +25,12 @@ unfoldable pub Wide : List (List ℕ) → Type 0
 Wide [] = Unit {0}
 Wide (b ∷ bs) = (length b ≡ 512) × Wide bs
 
--- ---- a part of 512 bytes that is lent, and comes back
-
-pub part_is : (i : ℕ) (l : List ℕ) → take (i * 512 + 512 - i * 512) (drop (i * 512) l) ≡ block_of i l
-unfolding block_of
-part_is i l = rw add-sub_cancel_left
-
-pub put_is : (i : ℕ) (l b : List ℕ) → put_mid (i * 512) (i * 512 + 512 - i * 512) l b ≡ put_block i b l
-unfolding put_block
-put_is i l b = rw add-sub_cancel_left
-
-pub put_part : (k : ℕ) (l b c : List ℕ) → b ≡ c → put_mid (k * 512) (k * 512 + 512 - k * 512) l b ≡ put_block k c l
-put_part k l b c e = put_is k l b ∙ ap (λ (d : List ℕ). put_block k d l) e
-
--- what a function makes of the part
-pub put_made : (f : List ℕ → List ℕ) (k : ℕ) (l b : List ℕ) → b ≡ f (take (k * 512 + 512 - k * 512) (drop (k * 512) l))
-    → put_mid (k * 512) (k * 512 + 512 - k * 512) l b ≡ put_block k (f (block_of k l)) l
-put_made f k l b e = put_part k l b (f (block_of k l)) (e ∙ ap f (part_is k l))
-
--- what a test says of two parts, and what is read in a part
-pub parts_told : (f : List ℕ → List ℕ → Bool) (j k : ℕ) (l : List ℕ) (r : Bool)
-    → r ≡ f (take (j * 512 + 512 - j * 512) (drop (j * 512) l)) (take (k * 512 + 512 - k * 512) (drop (k * 512) l)) → r ≡ f (block_of j l) (block_of k l)
-parts_told f j k l r e = e ∙ ap₂ f (part_is j l) (part_is k l)
-
-pub part_read : {A : Type 0} (f : List ℕ → A) (k : ℕ) (l : List ℕ) (r : A) → r ≡ f (take (k * 512 + 512 - k * 512) (drop (k * 512) l)) → r ≡ f (block_of k l)
-part_read f k l r e = e ∙ ap f (part_is k l)
-
-pub part_count : (k : ℕ) (l : List ℕ) → get_or (block_of k l) 4 0 ≤ capacity → get_or (take (k * 512 + 512 - k * 512) (drop (k * 512) l)) 4 0 ≤ capacity
-part_count k l h = rw part_is h
+-- ---- block i copied over block j
+pub copied : (l : List ℕ) (i j a e t : ℕ) → a ≡ i * 512 → e ≡ a + 512 → t ≡ j * 512 → copy_within l a e t ≡ put_block j (block_of i l) l
+unfolding put_block block_of
+copied l i j a e t p q r =
+    let n : e - a ≡ 512 = omega arith in
+    rw (n, p, r) (append_assoc (take (j * 512) l) (take 512 (drop (i * 512) l)) (drop (j * 512 + 512) l) ∙ rw drop-drop)
 
 -- ---- lengths
 
@@ -154,18 +130,3 @@ books_ext n l m hl hm same =
 pub byte_of : (k i : ℕ) (l : List ℕ) → i < 512 → get_or (block_of k l) i 0 ≡ get_or l (k * 512 + i) 0
 unfolding block_of
 byte_of k i l h = get_or-take 512 (drop (k * 512) l) i 0 h ∙ get_or-drop (k * 512) l i 0
-
--- a byte stored in block k
-pub set_block : (k i v : ℕ) (l : List ℕ) → i < 512 → k * 512 + 512 ≤ length l → set l (k * 512 + i) v ≡ put_block k (set (block_of k l) i v) l
-unfolding block_of put_block
-set_block k i v l h g =
-    let n : ℕ = k * 512 in
-    let p : List ℕ = take n l in
-    let d : List ℕ = drop n l in
-    let e : length p ≡ n = length-take-le n l (omega arith) in
-    let f : length (take 512 d) ≡ 512 = length-take-le 512 d (rw length-drop (omega arith)) in
-    ap (λ (z : List ℕ). set z (n + i) v) (sym (take-append-drop n l))
-    ∙ ap (λ (z : ℕ). set (p ++ d) (z + i) v) (sym e)
-    ∙ set_append_right p d i v
-    ∙ ap (λ (z : List ℕ). p ++ set z i v) (sym (take-append-drop 512 d))
-    ∙ ap (λ (z : List ℕ). p ++ z) (set-append_left (take 512 d) (drop 512 d) i v (omega arith))

@@ -6,5 +6,4 @@ pub mod Contents
 pub mod Scans
 pub mod Used
 pub mod Emptied
-pub mod Copies
 pub mod Stored

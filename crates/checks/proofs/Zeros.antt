@@ -5,9 +5,10 @@ use mathlib.Core.List.{List, [], ◌∷◌}
 use Prim.Native.Nat.{ℕ, zero, suc, ◌+◌, ◌-◌, ◌≤◌, ◌<◌}
 use native.Mathlib.Omega.{arith}
 use lib.Bits.{bit_or, bit_and, or_add_and, and_le_l, and_le_r}
-use lib.ListN.{length, take, get_or, replicate, length-replicate, get_or-replicate}
+use lib.ListN.{length, take, drop, get_or, replicate, length-replicate, get_or-replicate}
 use lib.Seq.{slice, length-slice, get_or-take, get_or-drop, ext_get_or}
 use lib.Dec.{eqb}
+use Rattle.std.proofs.lemmas.List.{drop-take}
 use Rattle.std.specs.List.{fold}
 use borrow.Author.Tests.{eqb-true, eq-eqb}
 use Rattle.laws.proofs.Tests.{by_order, same_test, and_left, and_right}
@@ -31,6 +32,12 @@ pub zero_in : (f t : ℕ) (l : List ℕ) → all_zero (slice f t l) ≡ true →
 zero_in f t l h i g k =
     let e : f + (i - f) ≡ i = omega arith in
     sym (get_or-take t l i 0 k) ∙ ap (λ (j : ℕ). get_or (take t l) j 0) (sym e) ∙ sym (get_or-drop f (take t l) (i - f) 0) ∙ all_zero_at (slice f t l) h (i - f)
+
+-- the test of a part, as code names the part
+pub zeros_part : (f t : ℕ) (l : List ℕ) → f ≤ t → all_zero (take (t - f) (drop f l)) ≡ all_zero (slice f t l)
+zeros_part f t l h =
+    let e : f + (t - f) ≡ t = omega arith in
+    ap all_zero (sym (drop-take f (t - f) l) ∙ ap (λ (n : ℕ). slice f n l) e)
 
 pub slice_zero : (f t : ℕ) (l : List ℕ) → t ≤ length l → ((i : ℕ) → f ≤ i → i < t → get_or l i 0 ≡ 0) → all_zero (slice f t l) ≡ true
 slice_zero f t l k z =

@@ -1,9 +1,5 @@
-use Prim.Native.Nat.{◌-◌}
 use Rattle.blocks.proofs.Emptied.{Emptied}
 use Rattle.blocks.proofs.clear_book.Given as goal
 
 abbrev pub invariant-loop-k : goal.invariant-loop-k
 invariant-loop-k l = Emptied l.book l.k
-
-abbrev pub decreases-loop-k : goal.decreases-loop-k
-decreases-loop-k l = 49 - l.k

@@ -1,9 +1,7 @@
-use Prim.Native.Nat.{◌-◌}
-use Rattle.blocks.proofs.Stored.{Reading}
+use mathlib.Core.Path.{◌≡◌}
+use lib.ListN.{take, drop}
+use Rattle.blocks.specs.Block.{numbers_of}
 use Rattle.blocks.proofs.read_numbers.Given as goal
 
 abbrev pub invariant-loop-i : goal.invariant-loop-i
-invariant-loop-i l = Reading l.b l.n l.initial.into l.into l.i
-
-abbrev pub decreases-loop-i : goal.decreases-loop-i
-decreases-loop-i l = l.n - l.i
+invariant-loop-i l = take l.i l.into ≡ numbers_of l.i (drop 8 l.b)
