@@ -149,15 +149,17 @@ pub fn same_blocks(book: &Book, i: usize, j: usize) -> bool
     block(book, i) == block(book, j)
 }
 
-// Reads the n numbers from byte 8.
-#[tactic(auto, using(crate::proofs::Stored::reading_more), unfolding(crate::specs::Block::numbers_of))]
-fn read_numbers(b: &Block, n: usize, into: &mut [u32; 120])
+// The n numbers from byte 8, and zeros after them.
+#[tactic(auto, unfolding(crate::specs::Block::numbers_of))]
+fn read_numbers(b: &Block, n: usize) -> [u32; 120]
     requires { n ≤ capacity }
-    ensures { take n into.new ≡ numbers_of n (drop 8 b.now) }
+    ensures { take n result ≡ numbers_of n (drop 8 b.now) }
 {
+    let mut places = [0; 120];
     for i in 0..n {
-        into[i] = number_at(b, 8 + 4 * i);
+        places[i] = number_at(b, 8 + 4 * i);
     }
+    places
 }
 
 #[tactic(auto, unfolding(crate::specs::Content::content_of))]
@@ -167,12 +169,9 @@ fn read_content(b: &Block) -> Held
     ensures fits { Fits result }
 {
     let count = usize::from(b[4]);
-    let purge = number_at(b, 0);
-    let mut places = [0; 120];
-    read_numbers(b, count, &mut places);
     Held {
-        purge,
-        places,
+        purge: number_at(b, 0),
+        places: read_numbers(b, count),
         count,
     }
 }
