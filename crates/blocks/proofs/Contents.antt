@@ -6,7 +6,8 @@ use Rattle.std.specs.Prelude.{None, Some}
 use Prim.Native.Nat.{ℕ, suc, ◌+◌, ◌*◌, ◌-◌, ◌/◌, ◌%◌, ◌≤◌, ◌<◌}
 use native.Mathlib.Omega.{arith}
 use lib.ListN.{length, take, drop, get_or, set, replicate, length-replicate, get_or-replicate, length-drop, length-append}
-use lib.Seq.{slice, get_or-drop, take-add, drop-set-add, get_or-append-add}
+use Rattle.std.specs.List.{slice_range}
+use lib.Seq.{get_or-drop, take-add, drop-set-add, get_or-append-add}
 use lib.Dec.{eqb, leb, ltb}
 use borrow.Author.Tests.{leb-true, le-leb, ltb-true, eqb-true, eq-eqb}
 use Rattle.laws.proofs.Tests.{by_order, and_left, and_right}
@@ -102,8 +103,8 @@ pub record Used (issue : ℕ) (b : List ℕ) : Type 0 where
   pub check : checked b ≡ true
   pub some : 1 ≤ get_or b 4 0
   pub few : get_or b 4 0 ≤ capacity
-  pub head : all_zero (slice 5 8 b) ≡ true
-  pub tail : all_zero (slice (8 + 4 * get_or b 4 0) 510 b) ≡ true
+  pub head : all_zero (slice_range b 5 8) ≡ true
+  pub tail : all_zero (slice_range b (8 + 4 * get_or b 4 0) 510) ≡ true
   pub up : ascends 0 (numbers_of (get_or b 4 0) (drop 8 b)) ≡ true
   pub purged : is_purge issue (number_at b 0) ≡ true
 
@@ -115,8 +116,8 @@ used_true issue b e =
     let one = leb 1 n in
     let most = leb n capacity in
     let t1 = checked b in
-    let t2 = all_zero (slice 5 8 b) in
-    let t3 = all_zero (slice (8 + 4 * n) 510 b) in
+    let t2 = all_zero (slice_range b 5 8) in
+    let t3 = all_zero (slice_range b (8 + 4 * n) 510) in
     let t4 = ascends 0 (numbers_of n (drop 8 b)) in
     let t5 = is_purge issue (number_at b 0) in
     let e4 = and_left (t1 && (one && most) && t2 && t3 && t4) t5 e in
@@ -259,14 +260,14 @@ module _ (issue : ℕ) (c : Content) (s : Sound issue c) where
   unfolding holding
   checked_is = sealed_checked (content_bytes c) (content_length c s.few)
 
-  head_is : all_zero (slice 5 8 (holding (Some c))) ≡ true
+  head_is : all_zero (slice_range (holding (Some c)) 5 8) ≡ true
   unfolding holding content_bytes
   head_is =
       let b : List ℕ = content_bytes c in
       slice_zero 5 8 (sealed b) (omega (arith, used_length c s.few))
       (three (λ (i : ℕ). get_or (sealed b) i 0 ≡ 0) (sealed_at b 5 (omega arith)) (sealed_at b 6 (omega arith)) (sealed_at b 7 (omega arith)))
 
-  tail_is : all_zero (slice (8 + 4 * length c.places) 510 (holding (Some c))) ≡ true
+  tail_is : all_zero (slice_range (holding (Some c)) (8 + 4 * length c.places) 510) ≡ true
   unfolding holding content_bytes
   tail_is =
       let n : ℕ = length c.places in
@@ -319,4 +320,4 @@ unused_forth =
 pub unused_back : (b : List ℕ) → length b ≡ block_length → Bytes b → is_unused b ≡ true → holding None ≡ b
 unfolding is_unused holding
 unused_back b len y e =
-    sym (sealed_form b len y 0 (omega arith) (and_left (checked b) (all_zero (slice 0 510 b)) e) (and_right (checked b) (all_zero (slice 0 510 b)) e))
+    sym (sealed_form b len y 0 (omega arith) (and_left (checked b) (all_zero (slice_range b 0 510)) e) (and_right (checked b) (all_zero (slice_range b 0 510)) e))

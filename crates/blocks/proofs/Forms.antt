@@ -7,7 +7,8 @@ use Prim.Native.Nat.{ℕ, ◌+◌, ◌*◌, ◌-◌, ◌/◌, ◌%◌, ◌≤◌
 use native.Mathlib.Nat.{ne_of_lt, mod-eq_of_lt, mod-lt, mod-add-div, div-lt_iff_lt-mul}
 use native.Mathlib.Omega.{arith}
 use lib.ListN.{length, take, drop, get_or, set, replicate, length-set, length-drop, take-append-drop}
-use lib.Seq.{slice, get_or-drop, set-get_or, take-set-le, get_or-set_same, get_or-set_other}
+use Rattle.std.specs.List.{slice_range}
+use lib.Seq.{get_or-drop, set-get_or, take-set-le, get_or-set_same, get_or-set_other}
 use borrow.Author.Tests.{eqb-true, eq-eqb}
 use Rattle.laws.proofs.Tests.{by_order}
 use Rattle.checks.specs.Seal.{block_length, check_of, sealed, checked, all_zero}
@@ -48,7 +49,7 @@ own_seal b y ok =
     rw (p, q, set-get_or, set-get_or)
 
 -- A block with a right check and zeros from an offset on is the seal of what stands before the offset, with zeros after it.
-module _ (b : List ℕ) (len : length b ≡ block_length) (y : Bytes b) (from : ℕ) (k : from ≤ 510) (ok : checked b ≡ true) (none : all_zero (slice from 510 b) ≡ true) where
+module _ (b : List ℕ) (len : length b ≡ block_length) (y : Bytes b) (from : ℕ) (k : from ≤ 510) (ok : checked b ≡ true) (none : all_zero (slice_range b from 510) ≡ true) where
   -- the block with zeros for its check
   blank : List ℕ
   blank = set (set b 510 0) 511 0

@@ -8,7 +8,7 @@ ghost use Rattle.std.proofs.lemmas.List.Edits.{sets};
 ghost use Rattle.calendar.specs.Window.{WindowOf};
 ghost use Rattle.codes.specs.Places.{capacity, ascends};
 ghost use Rattle.checks.specs.Seal.{block_length, sealed};
-ghost use Rattle.blocks.specs.Block.{bytes32, number_at, numbers_of, flat, block_of, put_block, same_list, block_count};
+ghost use Rattle.blocks.specs.Block.{bytes32, number_at, numbers_of, flat, block_of, put_block, same_list, block_count, book_length};
 ghost use Rattle.blocks.specs.Content.{content_of, holding};
 ghost use Rattle.blocks.specs.Good.{is_used};
 ghost use Rattle.blocks.specs.Held.{held_content, Fits};
@@ -30,6 +30,26 @@ pub fn size(x: u8) -> usize
     ensures { (result ≡ x) × (result < 256) }
 {
     usize::from(x)
+}
+
+// Bytes of a book's length as a book.
+pub fn as_book(bytes: &[u8]) -> &Book
+    requires { length bytes.now ≡ book_length }
+    ensures { result.now ≡ bytes.now }
+{
+    bytes.as_array().unwrap()
+}
+
+// The same, to be changed in place.
+pub fn as_book_mut(bytes: &mut [u8]) -> &mut Book
+    requires { length bytes.old ≡ book_length }
+    ensures* writes_back { sem 𝓛 (Lends (Array u8 0) (Array u8 0) bytes.entry result (λ b. b)) }
+    ensures value { result.now ≡ bytes.old }
+{
+    let Some(book) = bytes.as_mut_array() else {
+        unreachable!();
+    };
+    book
 }
 
 // Block k of a book.

@@ -6,7 +6,8 @@ use Prim.Native.Nat.{ℕ, zero, suc, ◌+◌, ◌*◌, ◌/◌, ◌%◌, ◌-◌
 use native.Mathlib.Nat.{ne_of_gt}
 use native.Mathlib.Omega.{arith}
 use lib.ListN.{length, get_or, set, drop}
-use lib.Seq.{slice, set-get_or, get_or-set_other}
+use Rattle.std.specs.List.{slice_range}
+use lib.Seq.{set-get_or, get_or-set_other}
 use lib.Bits.{bit_or}
 use lib.Dec.{eqb}
 use borrow.Author.Tests.{eqb-true, eq-eqb}
@@ -40,7 +41,7 @@ one_in low high =
     let q : high ≡ 0 = eqb-true high 0 (and_right (eqb low 1) (eqb high 0) h) in
     eq-eqb 1 (low + 256 * high) (omega arith))
 
-pub unused_is : (b : List ℕ) (z : Bool) → z ≡ all_zero (slice 0 510 b) → (z && eqb (get_or b 510 0) 1 && eqb (get_or b 511 0) 0) ≡ is_unused b
+pub unused_is : (b : List ℕ) (z : Bool) → z ≡ all_zero (slice_range b 0 510) → (z && eqb (get_or b 510 0) 1 && eqb (get_or b 511 0) 0) ≡ is_unused b
 unfolding is_unused checked
 unused_is b true e =
     let c : check_of b ≡ 1 = check_zero b (λ i h. zero_in 0 510 b (sym e) i (omega arith) h) in
@@ -110,9 +111,9 @@ module _ (b : List ℕ) (j some : ℕ) (v : Blank b j some) where
   unfolding looked all_zero
   blank_more h = joined_more h (fold bit_or (get_or b j 0) (drop 1 (looked b j))) (zeros_from (drop 1 (looked b j)) (get_or b j 0))
 
-pub blank_all : (b : List ℕ) (j some : ℕ) → Blank b j some → 64 ≤ j → length b ≡ block_length → eqb some 0 ≡ all_zero (slice 0 510 b)
+pub blank_all : (b : List ℕ) (j some : ℕ) → Blank b j some → 64 ≤ j → length b ≡ block_length → eqb some 0 ≡ all_zero (slice_range b 0 510)
 blank_all b j some v h l =
-    same_test (eqb some 0) (all_zero (slice 0 510 b))
+    same_test (eqb some 0) (all_zero (slice_range b 0 510))
     (λ e. slice_zero 0 510 b (omega arith) (λ i p q. zero_looked b (λ k g. v.seen e k (omega arith)) i q))
     (λ e. v.none (λ i q. zero_in 0 510 b e i (omega arith) q))
 

@@ -5,10 +5,10 @@ use mathlib.Core.List.{List, [], ◌∷◌}
 use Prim.Native.Nat.{ℕ, zero, suc, ◌+◌, ◌-◌, ◌≤◌, ◌<◌}
 use native.Mathlib.Omega.{arith}
 use lib.Bits.{bit_or, bit_and, or_add_and, and_le_l, and_le_r}
-use lib.ListN.{length, take, drop, get_or, replicate, length-replicate, get_or-replicate}
-use lib.Seq.{slice, length-slice, get_or-take, get_or-drop, ext_get_or}
+use lib.ListN.{length, drop, length-take, get_or, replicate, length-replicate, get_or-replicate}
+use Rattle.std.specs.List.{slice_range}
+use lib.Seq.{get_or-take, get_or-drop, ext_get_or}
 use lib.Dec.{eqb}
-use Rattle.std.proofs.lemmas.List.{drop-take}
 use Rattle.std.specs.List.{fold}
 use borrow.Author.Tests.{eqb-true, eq-eqb}
 use Rattle.laws.proofs.Tests.{by_order, same_test, and_left, and_right}
@@ -28,31 +28,25 @@ all_zero_of [] z = refl
 all_zero_of (x ∷ xs) z = rw (eq-eqb x 0 (z 0 (omega arith))) (all_zero_of xs (λ i h. z (suc i) (omega arith)))
 
 -- the test of a part, and each of its bytes
-pub zero_in : (f t : ℕ) (l : List ℕ) → all_zero (slice f t l) ≡ true → (i : ℕ) → f ≤ i → i < t → get_or l i 0 ≡ 0
+pub zero_in : (f t : ℕ) (l : List ℕ) → all_zero (slice_range l f t) ≡ true → (i : ℕ) → f ≤ i → i < t → get_or l i 0 ≡ 0
 zero_in f t l h i g k =
     let e : f + (i - f) ≡ i = omega arith in
-    sym (get_or-take t l i 0 k) ∙ ap (λ (j : ℕ). get_or (take t l) j 0) (sym e) ∙ sym (get_or-drop f (take t l) (i - f) 0) ∙ all_zero_at (slice f t l) h (i - f)
+    ap (λ (j : ℕ). get_or l j 0) (sym e) ∙ sym (get_or-take (t - f) (drop f l) (i - f) 0 (omega arith) ∙ get_or-drop f l (i - f) 0)
+    ∙ all_zero_at (slice_range l f t) h (i - f)
 
--- the test of a part, as code names the part
-pub zeros_part : (f t : ℕ) (l : List ℕ) → f ≤ t → all_zero (take (t - f) (drop f l)) ≡ all_zero (slice f t l)
-zeros_part f t l h =
-    let e : f + (t - f) ≡ t = omega arith in
-    ap all_zero (sym (drop-take f (t - f) l) ∙ ap (λ (n : ℕ). slice f n l) e)
-
-pub slice_zero : (f t : ℕ) (l : List ℕ) → t ≤ length l → ((i : ℕ) → f ≤ i → i < t → get_or l i 0 ≡ 0) → all_zero (slice f t l) ≡ true
+pub slice_zero : (f t : ℕ) (l : List ℕ) → t ≤ length l → ((i : ℕ) → f ≤ i → i < t → get_or l i 0 ≡ 0) → all_zero (slice_range l f t) ≡ true
 slice_zero f t l k z =
-    all_zero_of (slice f t l)
-    (λ i h. let n = length-slice f t l k in
-    let g : f + i < t = omega arith in
-    get_or-drop f (take t l) i 0 ∙ get_or-take t l (f + i) 0 g ∙ z (f + i) (omega arith) g)
+    all_zero_of (slice_range l f t)
+    (λ i h. let g : i < t - f = omega (arith, length-take {A = ℕ}) in
+    get_or-take (t - f) (drop f l) i 0 g ∙ get_or-drop f l i 0 ∙ z (f + i) (omega arith) (omega arith))
 
 -- a part is zeros if both its parts are, which may have bytes in common
 pub zero_join : (f n m t : ℕ) (l : List ℕ) → f ≤ n → n ≤ m → m ≤ t → t ≤ length l
-    → (all_zero (slice f m l) && all_zero (slice n t l)) ≡ all_zero (slice f t l)
+    → (all_zero (slice_range l f m) && all_zero (slice_range l n t)) ≡ all_zero (slice_range l f t)
 zero_join f n m t l h j k w =
-    let front = all_zero (slice f m l) in
-    let back = all_zero (slice n t l) in
-    same_test (front && back) (all_zero (slice f t l))
+    let front = all_zero (slice_range l f m) in
+    let back = all_zero (slice_range l n t) in
+    same_test (front && back) (all_zero (slice_range l f t))
     (λ e. slice_zero f t l w
     (λ i p q. by_order i m (λ r. zero_in f m l (and_left front back e) i p r) (λ r. zero_in n t l (and_right front back e) i (omega arith) q)))
     (λ e. let z : (i : ℕ) → f ≤ i → i < t → get_or l i 0 ≡ 0 = zero_in f t l e in

@@ -5,7 +5,7 @@ ghost use Rattle.std.specs.Prelude.{◌≡◌, ◌≤◌, ◌<◌, length, set};
 ghost use Rattle.checks.specs.Seal.{check_of, sealed, checked, all_zero};
 ghost use Rattle.checks.specs.Columns.{row_byte, column_sum, column_rows, weighed, ColumnsIn};
 ghost use Rattle.checks.specs.Unused.{is_unused};
-ghost use Rattle.std.proofs.Math.Seq.{slice};
+ghost use Rattle.std.specs.List.{slice_range};
 
 // A block of a book.
 pub type Block = [u8; 512];
@@ -91,7 +91,7 @@ pub fn all_zero(b: &[u8]) -> bool
 // The last row begins at byte 446 and ends with byte 509: two bytes are looked at twice.
 #[tactic(auto, using(crate::proofs::Unused::blank_more, crate::proofs::Unused::blank_all))]
 fn is_blank(b: &Block) -> bool
-    ensures { result ≡ all_zero (slice 0 510 b.now) }
+    ensures { result ≡ all_zero (slice_range b.now 0 510) }
 {
     let mut some = 0;
     for j in 0..64 {

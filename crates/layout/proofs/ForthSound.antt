@@ -7,7 +7,8 @@ use native.Mathlib.Numerals.{one-add}
 use native.Mathlib.Nat.{zero-add}
 use native.Mathlib.Omega.{arith}
 use lib.ListN.{length, get_or}
-use lib.Seq.{slice}
+use Rattle.std.specs.List.{slice_range}
+use lib.Seq.{}
 use lib.Dec.{ltb}
 use borrow.Author.Tests.{le-leb, eq-eqb}
 use Rattle.laws.proofs.Lists.{all_get}
@@ -67,13 +68,13 @@ module _ (b : Book) (sound : Sound b) where
   first_steps = first_at 24 (omega arith) ∙ index_steps b sound.four
 
   -- its zeros
-  first_gap : all_zero (slice 5 8 first) ≡ true
+  first_gap : all_zero (slice_range first 5 8) ≡ true
   first_gap = slice_zero 5 8 first (omega (arith, first_length)) (λ i h g. first_at i (omega arith) ∙ index_gap b i h g)
 
-  first_mid : all_zero (slice 25 32 first) ≡ true
+  first_mid : all_zero (slice_range first 25 32) ≡ true
   first_mid = slice_zero 25 32 first (omega (arith, first_length)) (λ i h g. first_at i (omega arith) ∙ index_mid b sound.four i h g)
 
-  first_rest : all_zero (slice (32 + 2 * length b.history.kept) 510 first) ≡ true
+  first_rest : all_zero (slice_range first (32 + 2 * length b.history.kept) 510) ≡ true
   first_rest =
       slice_zero (32 + 2 * length b.history.kept) 510 first (omega (arith, first_length))
       (λ i h g. first_at i g ∙ index_rest b sound.four sound.past.sixteen i h (omega arith))

@@ -1,10 +1,10 @@
 -- The issue of a good block 0 has a window, which tells its purge minutes. Assumes nothing.
 use Prim.Native.Nat.{ℕ}
 use mathlib.Core.Path.{◌≡◌, sym, ap, ◌∙◌, subst}
-use mathlib.Core.Bool.{Bool, true, false, not}
+use mathlib.Core.Bool.{Bool, true}
 use mathlib.Core.List.{List}
 use Rattle.std.specs.Prelude.{None, Some}
-use borrow.Author.Tests.{ltb-true, not-false}
+use borrow.Author.Tests.{ltb-true}
 use Rattle.laws.proofs.Tests.{apart}
 use Rattle.months.specs.Months.{start_of, issue_months}
 use Rattle.calendar.specs.Window.{window_of, paper_windowed, WindowOf}
@@ -18,9 +18,8 @@ use Rattle.layout.specs.Tests.{is_index}
 use Rattle.layout.proofs.Parts.{index_parts, number_0}
 
 -- the issue of a good block 0 is of the years 1970..2099
-pub index_issue : (l : List ℕ) (index : Bool) → index ≡ is_index (block_of 0 l) → not index ≡ false → is_issue (number_at l 0) ≡ true
-index_issue l index g h =
-    subst (λ (issue : ℕ). is_issue issue ≡ true) (number_0 l) (index_parts (block_of 0 l) (sym g ∙ not-false index h)).year
+pub index_issue : (l : List ℕ) → is_index (block_of 0 l) ≡ true → is_issue (number_at l 0) ≡ true
+index_issue l h = subst (λ (issue : ℕ). is_issue issue ≡ true) (number_0 l) (index_parts (block_of 0 l) h).year
 
 module _ (l : List ℕ) (issue : ℕ) (e : issue ≡ number_at l 0) (r : Windowed) (g : paper_windowed r ≡ window_of issue) where
   -- so it has a window: where there is none, whatever is answered is right

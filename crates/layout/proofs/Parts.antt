@@ -5,7 +5,8 @@ use mathlib.Core.List.{List}
 use Prim.Native.Nat.{ℕ, ◌+◌, ◌*◌, ◌≤◌, ◌<◌}
 use native.Mathlib.Omega.{arith}
 use lib.ListN.{length, get_or}
-use lib.Seq.{slice}
+use Rattle.std.specs.List.{slice_range}
+use lib.Seq.{}
 use lib.Dec.{leb, eqb}
 use borrow.Author.Tests.{leb-true, eqb-true}
 use Rattle.laws.proofs.Tests.{and_left, and_right}
@@ -27,12 +28,12 @@ pub record IndexParts (b : List ℕ) : Type 0 where
   pub year : is_issue (number_at b 0) ≡ true
   pub one : 1 ≤ get_or b 4 0
   pub eight : get_or b 4 0 ≤ 8
-  pub head : all_zero (slice 5 8 b) ≡ true
+  pub head : all_zero (slice_range b 5 8) ≡ true
   pub drafts : every (is_draft_at b) (upward 0 4) ≡ true
   pub sixteen : get_or b 24 0 ≤ steps_most
-  pub middle : all_zero (slice 25 32 b) ≡ true
+  pub middle : all_zero (slice_range b 25 32) ≡ true
   pub steps : every (is_step_at b) (upward 0 (get_or b 24 0)) ≡ true
-  pub tail : all_zero (slice (32 + 2 * get_or b 24 0) 510 b) ≡ true
+  pub tail : all_zero (slice_range b (32 + 2 * get_or b 24 0) 510) ≡ true
 
 -- what the test of block 0 says
 pub index_parts : (b : List ℕ) → is_index b ≡ true → IndexParts b
@@ -44,12 +45,12 @@ index_parts b e =
     let t2 = is_issue (number_at b 0) in
     let u = leb 1 n in
     let v = leb n 8 in
-    let t4 = all_zero (slice 5 8 b) in
+    let t4 = all_zero (slice_range b 5 8) in
     let t5 = every (is_draft_at b) (upward 0 4) in
     let t6 = leb m steps_most in
-    let t7 = all_zero (slice 25 32 b) in
+    let t7 = all_zero (slice_range b 25 32) in
     let t8 = every (is_step_at b) (upward 0 m) in
-    let t9 = all_zero (slice (32 + 2 * m) 510 b) in
+    let t9 = all_zero (slice_range b (32 + 2 * m) 510) in
     let e8 = and_left (t1 && t2 && (u && v) && t4 && t5 && t6 && t7 && t8) t9 e in
     let e7 = and_left (t1 && t2 && (u && v) && t4 && t5 && t6 && t7) t8 e8 in
     let e6 = and_left (t1 && t2 && (u && v) && t4 && t5 && t6) t7 e7 in

@@ -1,6 +1,6 @@
 -- Serves the code: the tests that `is_sound` makes, one for each of its functions. layout/proofs/SoundIff joins them to the sentence in specs/Sound, both ways.
 use Rattle.std.specs.Prelude.{ℕ, ◌+◌, ◌-◌, ◌*◌, ◌/◌, ◌%◌, Bool, cond, ◌&&◌, ◌||◌, not, List, length, get_or, leb, ltb, eqb}
-use Rattle.std.proofs.Math.Seq.{slice}
+use Rattle.std.specs.List.{slice_range}
 use Rattle.laws.specs.Lists.{every}
 use Rattle.codes.specs.Places.{upward}
 use Rattle.checks.specs.Seal.{all_zero, checked}
@@ -33,11 +33,11 @@ is_step_at b s = is_step (get_or b 4 0) (get_or b (32 + 2 * s) 0) (get_or b (33 
 unfoldable pub is_index : List ℕ → Bool
 is_index b =
     checked b && is_issue (number_at b 0)
-    && (leb 1 (get_or b 4 0) && leb (get_or b 4 0) 8) && all_zero (slice 5 8 b)
+    && (leb 1 (get_or b 4 0) && leb (get_or b 4 0) 8) && all_zero (slice_range b 5 8)
     && every (is_draft_at b) (upward 0 4)
-    && leb (get_or b 24 0) steps_most && all_zero (slice 25 32 b)
+    && leb (get_or b 24 0) steps_most && all_zero (slice_range b 25 32)
     && every (is_step_at b) (upward 0 (get_or b 24 0))
-    && all_zero (slice (32 + 2 * get_or b 24 0) 510 b)
+    && all_zero (slice_range b (32 + 2 * get_or b 24 0) 510)
 
 -- whether block k is used: its segment exists, its copy is taken, its step has the segment (byte 32 + 2 * s + n of block 0 is byte 15 + k where k is the block of part n of step s)
 unfoldable pub used : List ℕ → ℕ → Bool

@@ -1,17 +1,18 @@
 // The book: document 01, "The book". Its layout, its soundness, and what its calls answer.
 #![tactic(auto)]
 
-ghost use Rattle.std.specs.Prelude.{◌≡◌, true, ◌≤◌, ◌<◌, length};
+ghost use Rattle.std.specs.Prelude.{◌≡◌, true, ◌≤◌, ◌<◌};
 ghost use Rattle.calendar.specs.Window.{WindowOf};
 ghost use Rattle.codes.specs.Places.{upward};
-ghost use Rattle.checks.specs.Seal.{block_length};
-ghost use Rattle.blocks.specs.Block.{block_count, book_length, number_at};
+ghost use Rattle.blocks.specs.Block.{block_count, number_at};
 ghost use Rattle.steps.specs.Calls.{steps_most};
 ghost use Rattle.laws.specs.Lists.{every};
 ghost use Rattle.layout.specs.Sound.{is_issue};
 ghost use Rattle.layout.specs.Tests.{is_draft, is_step, is_draft_at, is_step_at, is_index, used, is_good, is_sound};
 
+use blocks::Book;
 use calendar::Windowed;
+use checks::Block;
 use refusal::Refusal;
 
 // Segments that changed, ascending.
@@ -42,7 +43,8 @@ pub fn refused(number: usize) -> Reply
 
 // ---- soundness: block 0, then the others one after another
 // Whether the bytes of a draft are good, where n segments exist.
-fn is_draft(n: usize, is_open: usize, first: usize, second: usize, stale: usize) -> bool
+#[tactic(auto, unfolding(crate::specs::Tests::is_draft))]
+fn is_draft(n: u8, is_open: u8, first: u8, second: u8, stale: u8) -> bool
     ensures { result ≡ is_draft n is_open first second stale }
 {
     if is_open == 0 {
@@ -57,153 +59,116 @@ fn is_draft(n: usize, is_open: usize, first: usize, second: usize, stale: usize)
 }
 
 // Whether the bytes of a step are good, where n segments exist.
-fn is_step(n: usize, first: usize, second: usize) -> bool
+#[tactic(auto, unfolding(crate::specs::Tests::is_step))]
+fn is_step(n: u8, first: u8, second: u8) -> bool
     ensures { result ≡ is_step n first second }
 {
     (1 <= first) & (first <= n) & ((second == 0) | ((first < second) & (second <= n)))
 }
 
-fn is_draft_at(b: &[u8], d: usize) -> bool
-    requires { (length b.now ≡ block_length) × (d < 4) }
+#[tactic(auto, unfolding(crate::specs::Tests::is_draft_at))]
+fn is_draft_at(b: &Block, d: usize) -> bool
+    requires { d < 4 }
     ensures { result ≡ is_draft_at b.now d }
 {
-    let n = blocks::size(b[4]);
-    let is_open = blocks::size(b[8 + 4 * d]);
-    let first = blocks::size(b[9 + 4 * d]);
-    let second = blocks::size(b[10 + 4 * d]);
-    let stale = blocks::size(b[11 + 4 * d]);
-    is_draft(n, is_open, first, second, stale)
+    is_draft(
+        b[4],
+        b[8 + 4 * d],
+        b[9 + 4 * d],
+        b[10 + 4 * d],
+        b[11 + 4 * d],
+    )
 }
 
-fn is_step_at(b: &[u8], s: usize) -> bool
-    requires { (length b.now ≡ block_length) × (s < steps_most) }
+#[tactic(auto, unfolding(crate::specs::Tests::is_step_at))]
+fn is_step_at(b: &Block, s: usize) -> bool
+    requires { s < steps_most }
     ensures { result ≡ is_step_at b.now s }
 {
-    let n = blocks::size(b[4]);
-    let first = blocks::size(b[32 + 2 * s]);
-    let second = blocks::size(b[33 + 2 * s]);
-    is_step(n, first, second)
+    is_step(b[4], b[32 + 2 * s], b[33 + 2 * s])
 }
 
-fn are_drafts(b: &[u8]) -> bool
-    requires { length b.now ≡ block_length }
+fn are_drafts(b: &Block) -> bool
     ensures { result ≡ every (is_draft_at b.now) (upward 0 4) }
 {
-    let mut d: usize = 0;
-    while d < 4 {
-        let good = is_draft_at(b, d);
-        if !good {
-            return false;
-        }
-        d += 1;
-    }
-    true
+    (0..4).all(|d| is_draft_at(b, d))
 }
 
-fn are_steps(b: &[u8], n: usize) -> bool
-    requires { (length b.now ≡ block_length) × (n ≤ steps_most) }
+fn are_steps(b: &Block, n: usize) -> bool
+    requires { n ≤ steps_most }
     ensures { result ≡ every (is_step_at b.now) (upward 0 n) }
 {
-    let mut s: usize = 0;
-    while s < n {
-        let good = is_step_at(b, s);
-        if !good {
-            return false;
-        }
-        s += 1;
-    }
-    true
+    (0..n).all(|s| is_step_at(b, s))
 }
 
 // Whether block 0 is good. The minute is 2100-01-01 0000.
-fn is_index(b: &[u8]) -> bool
-    requires { length b.now ≡ block_length }
+#[tactic(auto, using(crate::proofs::Tests::issue_is, crate::proofs::Tests::index_many), unfolding(crate::specs::Tests::is_index))]
+fn is_index(b: &Block) -> bool
     ensures { result ≡ is_index b.now }
 {
-    let n = blocks::size(b[4]);
-    let m = blocks::size(b[24]);
+    let n = b[4];
+    let m = usize::from(b[24]);
     if 16 < m {
         return false;
     }
     let check = checks::is_checked(b);
     let issue = blocks::number_at(b, 0);
-    let gap = checks::all_zero(b, 5, 8);
+    let gap = checks::all_zero(&b[5..8]);
     let drafts = are_drafts(b);
-    let gap2 = checks::all_zero(b, 25, 32);
+    let gap2 = checks::all_zero(&b[25..32]);
     let steps = are_steps(b, m);
-    let tail = checks::all_zero(b, 32 + 2 * m, 510);
-    check
-        & (issue < 68374080)
-        & ((1 <= n) & (n <= 8))
-        & gap
-        & drafts
-        & (m <= 16)
-        & gap2
-        & steps
-        & tail
+    let tail = checks::all_zero(&b[32 + 2 * m..510]);
+    check & (issue < 68374080) & ((1 <= n) & (n <= 8)) & gap & drafts & gap2 & steps & tail
 }
 
 // Whether block k is used, as block 0 says.
-fn is_used_block(book: &[u8], k: usize) -> bool
-    requires { (length book.now ≡ book_length) × (k < block_count) }
+#[tactic(auto, unfolding(crate::specs::Tests::used))]
+fn is_used_block(book: &Book, k: usize) -> bool
+    requires { k < block_count }
     ensures { result ≡ used book.now k }
 {
     if k < 9 {
-        let n = blocks::size(book[4]);
-        return k <= n;
+        k <= usize::from(book[4])
+    } else if k < 17 {
+        0 < book[9 + 4 * ((k - 9) / 2) + (k - 9) % 2]
+    } else {
+        0 < book[15 + k]
     }
-    if k < 17 {
-        let taken = blocks::size(book[9 + 4 * ((k - 9) / 2) + (k - 9) % 2]);
-        return 0 < taken;
-    }
-    let before = blocks::size(book[15 + k]);
-    0 < before
 }
 
 // Whether block k is good, where the window tells the purge minutes under the book's issue.
-fn is_good(book: &[u8], k: usize, w: calendar::Window) -> bool
-    requires { (length book.now ≡ book_length) × (k < block_count) × WindowOf (number_at book.now 0) w }
+#[tactic(auto, unfolding(crate::specs::Tests::is_good))]
+fn is_good(book: &Book, k: usize, w: calendar::Window) -> bool
+    requires { (k < block_count) × WindowOf (number_at book.now 0) w }
     ensures { result ≡ is_good book.now k }
 {
-    let a = k * 512;
-    let e = k * 512 + 512;
-    let in_use = is_used_block(book, k);
-    if in_use {
-        return blocks::is_used(&book[a..e], w);
+    let b = blocks::block(book, k);
+    if is_used_block(book, k) {
+        blocks::is_used(b, w)
+    } else {
+        checks::is_unused(b)
     }
-    checks::is_unused(&book[a..e])
 }
 
 // Whether the blocks from 1 on are good. The window is worked out once for all of them; an issue that block 0 may have has one.
-fn are_good(book: &[u8]) -> bool
-    requires { (length book.now ≡ book_length) × (is_issue (number_at book.now 0) ≡ true) }
+fn are_good(book: &Book) -> bool
+    requires { is_issue (number_at book.now 0) ≡ true }
     ensures { result ≡ every (is_good book.now) (upward 1 48) }
 {
     let issue = blocks::number_at(book, 0);
     let Windowed::Is(w) = calendar::window_of(issue as usize) else {
         return false;
     };
-    let mut k: usize = 1;
-    while k < 49 {
-        let good = is_good(book, k, w);
-        if !good {
-            return false;
-        }
-        k += 1;
-    }
-    true
+    (1..49).all(|k| is_good(book, k, w))
 }
 
 // Whether the bytes are a sound book.
+#[tactic(auto, using(crate::proofs::Issues::index_issue), unfolding(crate::specs::Tests::is_sound))]
 pub fn is_sound(book: &[u8]) -> bool
     ensures { result ≡ is_sound book.now }
 {
-    if book.len() != 25088 {
+    let Some(book) = book.as_array() else {
         return false;
-    }
-    let index = is_index(&book[0..512]);
-    if !index {
-        return false;
-    }
-    are_good(book)
+    };
+    is_index(blocks::block(book, 0)) && are_good(book)
 }

@@ -1,16 +1,9 @@
-use native.Mathlib.Omega.{arith}
-use Rattle.layout.proofs.Tests.{scan_start, scan_end, scan_no, scan_on}
-use Rattle.std.proofs.Common.{rules}
+use Rattle.std.proofs.Common.{rules, ◌≡◌, ◌∙◌}
+use Rattle.std.proofs.iter.runs.Sources.{ranges}
+use Rattle.std.specs.List.{list_all, range_with_len}
+use Rattle.layout.specs.Tests.{is_draft_at}
+use Rattle.layout.proofs.Tests.{all_upward}
 use Rattle.layout.proofs.are_drafts.Goals as goal
 
-pub loop-d-init : goal.loop-d-init
-loop-d-init c = scan_start _ 0 4 4 (omega arith)
-
-pub returns-then-not-good : goal.returns-then-not-good
-returns-then-not-good c = search (scan_no, rules)
-
-pub loop-d-preserved : goal.loop-d-preserved
-loop-d-preserved c = search (scan_on, rules)
-
 pub returns : goal.returns
-returns c = search (scan_end, rules)
+returns c = let e : c.all.result ≡ list_all (is_draft_at c.args.b.now) (range_with_len 0 4) = search (rules, ranges) in e ∙ all_upward (is_draft_at c.args.b.now) 0 4

@@ -1,16 +1,11 @@
-use native.Mathlib.Omega.{arith}
-use Rattle.layout.proofs.Tests.{scan_start, scan_end, scan_no, scan_on}
-use Rattle.std.proofs.Common.{rules}
+use Rattle.std.proofs.Common.{rules, ◌∙◌, refl, arith}
+use Rattle.std.proofs.lemmas.Iterator.{YieldsList-from_range}
+use Rattle.std.proofs.lemmas.Iterator.Search.{all_from_yields_List}
+use Rattle.layout.specs.Tests.{is_step_at}
+use Rattle.layout.proofs.Tests.{all_upward}
 use Rattle.layout.proofs.are_steps.Goals as goal
 
-pub loop-s-init : goal.loop-s-init
-loop-s-init c = scan_start _ 0 _ _ (omega arith)
-
-pub returns-then-not-good : goal.returns-then-not-good
-returns-then-not-good c = search (scan_no, rules)
-
-pub loop-s-preserved : goal.loop-s-preserved
-loop-s-preserved c = search (scan_on, rules)
-
 pub returns : goal.returns
-returns c = search (scan_end, rules)
+returns c =
+    all_from_yields_List (is_step_at c.args.b.now) _ _ _ c.all.ensures.ran (YieldsList-from_range 0 c.args.n c.args.n refl (omega arith)) (λ x r q k. search rules)
+    ∙ all_upward (is_step_at c.args.b.now) 0 c.args.n
