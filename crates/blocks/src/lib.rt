@@ -15,8 +15,8 @@ ghost use Rattle.blocks.specs.Held.{held_content, Fits};
 
 use checks::Block;
 
-// A book: 49 blocks.
-pub type Book = [u8; 25088];
+// The bytes of a book: 49 blocks.
+pub type BookBytes = [u8; 25088];
 
 // A content by value: the first `count` places are used.
 #[derive(Clone, Copy)]
@@ -32,8 +32,8 @@ pub fn size(x: u8) -> usize
     usize::from(x)
 }
 
-// Bytes of a book's length as a book.
-pub fn as_book(bytes: &[u8]) -> &Book
+// Bytes of a book's length, as an array.
+pub fn as_book(bytes: &[u8]) -> &BookBytes
     requires { length bytes.now ≡ book_length }
     ensures { result.now ≡ bytes.now }
 {
@@ -41,7 +41,7 @@ pub fn as_book(bytes: &[u8]) -> &Book
 }
 
 // The same, to be changed in place.
-pub fn as_book_mut(bytes: &mut [u8]) -> &mut Book
+pub fn as_book_mut(bytes: &mut [u8]) -> &mut BookBytes
     requires { length bytes.old ≡ book_length }
     ensures* writes_back { sem 𝓛 (Lends (Array u8 0) (Array u8 0) bytes.entry result (λ b. b)) }
     ensures value { result.now ≡ bytes.old }
@@ -54,7 +54,7 @@ pub fn as_book_mut(bytes: &mut [u8]) -> &mut Book
 
 // Block k of a book.
 #[tactic(auto, unfolding(crate::specs::Block::block_of))]
-pub fn block(book: &Book, k: usize) -> &Block
+pub fn block(book: &BookBytes, k: usize) -> &Block
     requires { k < block_count }
     ensures { result.now ≡ block_of k book.now }
 {
@@ -115,7 +115,7 @@ pub fn is_used(b: &Block, w: calendar::Window) -> bool
 
 // Seals block k of a book.
 #[tactic(auto, unfolding(crate::specs::Block::block_of, crate::specs::Block::put_block))]
-pub fn seal_block(book: &mut Book, k: usize)
+pub fn seal_block(book: &mut BookBytes, k: usize)
     requires { k < block_count }
     ensures { book.new ≡ put_block k (sealed (block_of k book.old)) book.old }
 {
@@ -125,7 +125,7 @@ pub fn seal_block(book: &mut Book, k: usize)
 
 // Copies block i of a book over block j.
 #[tactic(auto, using(crate::proofs::Blocks::copied))]
-pub fn copy_block(book: &mut Book, i: usize, j: usize)
+pub fn copy_block(book: &mut BookBytes, i: usize, j: usize)
     requires { (i < block_count) × (j < block_count) }
     ensures { book.new ≡ put_block j (block_of i book.old) book.old }
 {
@@ -143,7 +143,7 @@ fn unuse(b: &mut Block)
 
 // Makes block k of a book an unused one.
 #[tactic(auto, unfolding(crate::specs::Block::block_of, crate::specs::Block::put_block))]
-pub fn clear_block(book: &mut Book, k: usize)
+pub fn clear_block(book: &mut BookBytes, k: usize)
     requires { k < block_count }
     ensures { book.new ≡ put_block k (holding None) book.old }
 {
@@ -152,7 +152,7 @@ pub fn clear_block(book: &mut Book, k: usize)
 }
 
 // Makes every block of a book an unused one.
-pub fn clear_book(book: &mut Book)
+pub fn clear_book(book: &mut BookBytes)
     ensures { (k : ℕ) → k < block_count → block_of k book.new ≡ holding None }
 {
     for k in 0..49 {
@@ -162,7 +162,7 @@ pub fn clear_book(book: &mut Book)
 
 // Whether two blocks of a book have the same bytes.
 #[tactic(auto, using(crate::proofs::Scans::same_is))]
-pub fn same_blocks(book: &Book, i: usize, j: usize) -> bool
+pub fn same_blocks(book: &BookBytes, i: usize, j: usize) -> bool
     requires { (i < block_count) × (j < block_count) }
     ensures { result ≡ same_list (block_of i book.now) (block_of j book.now) }
 {
@@ -197,7 +197,7 @@ fn read_content(b: &Block) -> Held
 }
 
 // The content of block k, whose count is in its range.
-pub fn load(book: &Book, k: usize) -> Held
+pub fn load(book: &BookBytes, k: usize) -> Held
     requires { (k < block_count) × (get_or (block_of k book.now) 4 0 ≤ capacity) }
     ensures is { held_content result ≡ content_of (block_of k book.now) }
     ensures fits { Fits result }
@@ -239,7 +239,7 @@ fn put_content(b: &mut Block, purge: u32, places: &[u32])
 
 // Makes block k of a book a used one with this content.
 #[tactic(auto, unfolding(crate::specs::Block::block_of, crate::specs::Block::put_block))]
-pub fn store(book: &mut Book, k: usize, purge: u32, places: &[u32])
+pub fn store(book: &mut BookBytes, k: usize, purge: u32, places: &[u32])
     requires { (k < block_count) × (length places.now ≤ capacity) }
     ensures { book.new ≡ put_block k (holding (Some (record { purge = purge; places = places.now }))) book.old }
 {

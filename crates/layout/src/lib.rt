@@ -10,7 +10,7 @@ ghost use Rattle.laws.specs.Lists.{every};
 ghost use Rattle.layout.specs.Sound.{is_issue};
 ghost use Rattle.layout.specs.Tests.{is_draft, is_step, is_draft_at, is_step_at, is_index, used, is_good, is_sound};
 
-use blocks::Book;
+use blocks::BookBytes;
 use calendar::Windowed;
 use checks::Block;
 use refusal::Refusal;
@@ -123,7 +123,7 @@ fn is_index(b: &Block) -> bool
 
 // Whether block k is used, as block 0 says.
 #[tactic(auto, unfolding(crate::specs::Tests::used))]
-fn is_used_block(book: &Book, k: usize) -> bool
+fn is_used_block(book: &BookBytes, k: usize) -> bool
     requires { k < block_count }
     ensures { result ≡ used book.now k }
 {
@@ -138,7 +138,7 @@ fn is_used_block(book: &Book, k: usize) -> bool
 
 // Whether block k is good, where the window tells the purge minutes under the book's issue.
 #[tactic(auto, unfolding(crate::specs::Tests::is_good))]
-fn is_good(book: &Book, k: usize, w: calendar::Window) -> bool
+fn is_good(book: &BookBytes, k: usize, w: calendar::Window) -> bool
     requires { (k < block_count) × WindowOf (number_at book.now 0) w }
     ensures { result ≡ is_good book.now k }
 {
@@ -151,7 +151,7 @@ fn is_good(book: &Book, k: usize, w: calendar::Window) -> bool
 }
 
 // Whether the blocks from 1 on are good. The window is worked out once for all of them; an issue that block 0 may have has one.
-fn are_good(book: &Book) -> bool
+fn are_good(book: &BookBytes) -> bool
     requires { is_issue (number_at book.now 0) ≡ true }
     ensures { result ≡ every (is_good book.now) (upward 1 48) }
 {

@@ -5,14 +5,17 @@ use mathlib.Core.Bool.{Bool, false}
 use mathlib.Core.List.{List, [], ◌∷◌, ◌++◌}
 use Rattle.std.specs.Prelude.{None, Some}
 use Prim.Native.Nat.{ℕ, zero, suc, ◌+◌, ◌*◌, ◌≤◌, ◌<◌}
+use native.Mathlib.Nat.{ne_of_lt}
 use native.Mathlib.Omega.{arith}
-use lib.ListN.{length, get_or, set, length-set}
+use lib.ListN.{length, get_or, set, replicate, length-set, length-take, length-drop}
 use Rattle.std.specs.Prelude.{slice_get}
-use lib.Seq.{set-set, get_or-set_same}
+use lib.Seq.{sets, set-set, set_comm, get_or-set_same}
+use borrow.Rule.Slice.PartMut.{put_mid, mid_of}
 use Rattle.laws.proofs.Tests.{impossible}
 use Rattle.laws.proofs.Lookups.{get_more, get_last}
 use Rattle.codes.specs.Block.{Content}
-use Rattle.blocks.specs.Block.{block_of, put_block}
+use Rattle.blocks.specs.Block.{block_of, put_block, book_length}
+use Rattle.blocks.proofs.Stored.{put_sets}
 use Rattle.blocks.specs.Content.{holding}
 use Rattle.steps.specs.Book.{Copy, Draft, closed, working, Book, at, put, draft_at}
 use Rattle.steps.specs.Calls.{with_drafts}
@@ -158,8 +161,24 @@ module _ (l : List ℕ) (b : Book) (s : Lies l b) (k : ℕ) (h : k < 4) where
       stands_lies s₆ b₂ (length-set b.drafts k closed ∙ s.four) s.sixteen
       (λ i below. ap (λ (z : List ℕ). get_or z i 0) (index_closed b s.four k h)) (λ i below. both i)
 
--- the draft's four bytes cleared, from the last one on, and its two blocks
-pub closed_draft : (l : List ℕ) (b : Book) (d : ℕ) → 1 ≤ d → d ≤ 4 → Lies l b
+-- stores one after another, from the last one on
+set_sets : (l : List ℕ) (i j v : ℕ) (vs : List ℕ) → i + length vs ≤ j → set (sets l i vs) j v ≡ sets (set l j v) i vs
+set_sets l i j v [] h = refl
+set_sets l i j v (x ∷ xs) h =
+    set_sets (set l i x) (suc i) j v xs (omega arith) ∙ ap (λ (z : List ℕ). sets z (suc i) xs) (set_comm l i j x v (ne_of_lt (omega arith)))
+
+four_back : (l : List ℕ) (i w x y z : ℕ) → sets l i (w ∷ x ∷ y ∷ z ∷ []) ≡ set (set (set (set l (i + 3) z) (i + 2) y) (i + 1) x) i w
+four_back l i w x y z =
+    let e₁ : suc i ≡ i + 1 = omega arith in
+    let e₂ : suc (suc i) ≡ i + 2 = omega arith in
+    let e₃ : suc (suc (suc i)) ≡ i + 3 = omega arith in
+    rw (← e₁, ← e₂, ← e₃)
+    (set_sets l i (suc (suc (suc i))) z (w ∷ x ∷ y ∷ []) (omega arith)
+    ∙ set_sets (set l (suc (suc (suc i))) z) i (suc (suc i)) y (w ∷ x ∷ []) (omega arith)
+    ∙ set_sets (set (set l (suc (suc (suc i))) z) (suc (suc i)) y) i (suc i) x (w ∷ []) (omega arith))
+
+-- the draft's four bytes cleared, and its two blocks
+closed_draft : (l : List ℕ) (b : Book) (d : ℕ) → 1 ≤ d → d ≤ 4 → Lies l b
     → Lies (put_block (8 + 2 * d) (holding None) (put_block (7 + 2 * d) (holding None) (set (set (set (set l (7 + 4 * d) 0) (6 + 4 * d) 0) (5 + 4 * d) 0) (4 + 4 * d) 0)))
     (with_drafts b (put b.drafts d closed))
 unfolding l₄ b₂
@@ -172,6 +191,19 @@ closed_draft l b (suc k) h g s =
     let e₁ : 5 + 4 * suc k ≡ 8 + (k * 4 + 1) = omega arith in
     let e₀ : 4 + 4 * suc k ≡ 8 + (k * 4 + 0) = omega arith in
     rw (e₆, e₅, e₃, e₂, e₁, e₀) (lies_closed l b s k (omega arith))
+
+-- as the code leaves it
+pub closed_done : (l z m₁ m₂ : List ℕ) (d n : ℕ) → length l ≡ book_length → 1 ≤ d → d ≤ 4 → n ≡ 4 → z ≡ replicate (length (mid_of (4 + 4 * d) n l)) 0
+    → m₁ ≡ put_block (7 + 2 * d) (holding None) (put_mid (4 + 4 * d) n l z) → m₂ ≡ put_block (8 + 2 * d) (holding None) m₁
+    → (b : Book) → Lies l b → Lies m₂ (with_drafts b (put b.drafts d closed))
+closed_done l z m₁ m₂ d n long h g four zeros e₁ e₂ b s =
+    let x₁ : 4 + 4 * d + 1 ≡ 5 + 4 * d = omega arith in
+    let x₂ : 4 + 4 * d + 2 ≡ 6 + 4 * d = omega arith in
+    let x₃ : 4 + 4 * d + 3 ≡ 7 + 4 * d = omega arith in
+    let w : length (mid_of (4 + 4 * d) n l) ≡ 4 = omega (arith, length-take {A = ℕ}, length-drop {A = ℕ}) in
+    rw (e₂, e₁, zeros, w, four)
+    (rw (put_sets l (replicate 4 0) (4 + 4 * d) 4 refl (omega arith) ∙ four_back l (4 + 4 * d) 0 0 0 0, x₁, x₂, x₃)
+    (closed_draft l b d h g s))
 
 -- ---- a copy taken
 -- its byte
@@ -226,13 +258,19 @@ module _ (l : List ℕ) (b : Book) (s : Lies l b) (k : ℕ) (n : ℕ) (m : ℕ) 
         (λ e. parts_segment b m eight ∙ holds ∙ sym (new_block i e)) (λ d. sym (old_block i d)))
 
 -- block s copied to the draft's next one, and its number stored
-pub taken : (l : List ℕ) (b : Book) (d n s : ℕ) → 1 ≤ d → d ≤ 4 → n < 2 → 1 ≤ s → s ≤ 8 → Lies l b
+taken_at : (l : List ℕ) (b : Book) (d n s : ℕ) → 1 ≤ d → d ≤ 4 → n < 2 → 1 ≤ s → s ≤ 8 → Lies l b
     → (ks : List Copy) (stale : Bool) (c : Content) → draft_at b.drafts d ≡ working ks stale → length ks ≡ n → at b.segments s ≡ Some c
     → Lies (set (put_block (7 + 2 * d + n) (block_of s l) l) (5 + 4 * d + n) s) (with_drafts b (put b.drafts d (working (ks ++ (record { segment = s; held = c } ∷ [])) stale)))
 unfolding b₃ y q
-taken l b zero n s h g two h₁ h₈ lies ks stale c is long holds = impossible (omega arith)
-taken l b (suc k) n zero h g two h₁ h₈ lies ks stale c is long holds = impossible (omega arith)
-taken l b (suc k) n (suc m) h g two h₁ h₈ lies ks stale c is long holds =
+taken_at l b zero n s h g two h₁ h₈ lies ks stale c is long holds = impossible (omega arith)
+taken_at l b (suc k) n zero h g two h₁ h₈ lies ks stale c is long holds = impossible (omega arith)
+taken_at l b (suc k) n (suc m) h g two h₁ h₈ lies ks stale c is long holds =
     let e : 7 + 2 * suc k + n ≡ suc (8 + 2 * k + n) = omega arith in
     let f : 5 + 4 * suc k + n ≡ 8 + (k * 4 + (1 + n)) = omega arith in
     rw (e, f) (lies_taken l b lies k n m ks stale c (omega arith) two (omega arith) (sym (or_closed_lem b.drafts k) ∙ is) long holds)
+
+-- as the code leaves it
+pub taken : (l m : List ℕ) (d n s : ℕ) → m ≡ put_block (7 + 2 * d + n) (block_of s l) l → 1 ≤ d → d ≤ 4 → n < 2 → 1 ≤ s → s ≤ 8
+    → (b : Book) → Lies l b → (ks : List Copy) (stale : Bool) (c : Content) → draft_at b.drafts d ≡ working ks stale → length ks ≡ n → at b.segments s ≡ Some c
+    → Lies (set m (5 + 4 * d + n) s) (with_drafts b (put b.drafts d (working (ks ++ (record { segment = s; held = c } ∷ [])) stale)))
+taken l m d n s e h g two one eight b lies ks stale c is long holds = rw e (taken_at l b d n s h g two one eight lies ks stale c is long holds)

@@ -2,7 +2,7 @@
 use mathlib.Core.Path.{◌≡◌, refl, sym, ap, subst, ◌∙◌}
 use mathlib.Core.Bool.{Bool, true, false, cond, ◌||◌, or-false, or-true}
 use mathlib.Core.List.{List, [], ◌∷◌, map}
-use Prim.Native.Nat.{ℕ, suc, ◌+◌, ◌*◌, ◌≤◌, ◌<◌}
+use Prim.Native.Nat.{ℕ, zero, suc, ◌+◌, ◌-◌, ◌*◌, ◌≤◌, ◌<◌}
 use native.Mathlib.Omega.{arith}
 use lib.ListN.{length, get_or, set}
 use Rattle.std.specs.Prelude.{slice_get}
@@ -83,12 +83,25 @@ module _ (l : List ℕ) (b : Book) (k : Copy) (one : 1 ≤ k.segment) where
   four_marked (d₁ ∷ d₂ ∷ d₃ ∷ []) e f s = impossible (omega arith)
   four_marked (d₁ ∷ d₂ ∷ d₃ ∷ d₄ ∷ d₅ ∷ ds) e f s = impossible (omega arith)
 
--- as the code leaves it
-pub drafts_marked : (l l1 l2 l3 m : List ℕ) (s : ℕ) → 1 ≤ s → l1 ≡ marked l 1 s → l2 ≡ marked l1 2 s → l3 ≡ marked l2 3 s → m ≡ marked l3 4 s
+-- draft after draft: the first n
+unfoldable pub marks : ℕ → List ℕ → ℕ → List ℕ
+marks zero l s = l
+marks (suc n) l s = marked (marks n l s) (suc n) s
+
+pub marks_more : (l₀ l m : List ℕ) (d s : ℕ) → 1 ≤ d → l ≡ marks (d - 1) l₀ s → m ≡ marked l d s → m ≡ marks (d + 1 - 1) l₀ s
+unfolding marks
+marks_more l₀ l m zero s h e f = impossible (omega arith)
+marks_more l₀ l m (suc d) s h e f =
+    let p : suc d - 1 ≡ d = omega arith in
+    let q : suc d + 1 - 1 ≡ suc d = omega arith in
+    f ∙ rw (e, p, q) refl
+
+pub drafts_marked : (l m : List ℕ) (n s : ℕ) → 1 ≤ s → m ≡ marks (n - 1) l s → n ≤ 5 → 5 ≤ n
     → (b : Book) → Lies l b → All TwoTaken b.drafts → (k : Copy) → k.segment ≡ s → Lies m (with_drafts b (map (staled (k ∷ [])) b.drafts))
-drafts_marked l l1 l2 l3 m s one e₁ e₂ e₃ e₄ b lies two k is =
-    let left : marked (marked (marked (marked l 1 s) 2 s) 3 s) 4 s ≡ m =
-    sym (e₄ ∙ ap (λ (z : List ℕ). marked z 4 s) (e₃ ∙ ap (λ (z : List ℕ). marked z 3 s) (e₂ ∙ ap (λ (z : List ℕ). marked z 2 s) e₁))) in
+unfolding marks
+drafts_marked l m n s one e low high b lies two k is =
+    let four : n - 1 ≡ 4 = omega arith in
+    let left : marks 4 l s ≡ m = ap (λ (i : ℕ). marks i l s) (sym four) ∙ sym e in
     subst (λ (z : List ℕ). Lies z (with_drafts b (map (staled (k ∷ [])) b.drafts)))
     (ap (λ (n : ℕ). marked (marked (marked (marked l 1 n) 2 n) 3 n) 4 n) is ∙ left)
     (four_marked l b k (omega arith) b.drafts lies.four two lies)

@@ -15,7 +15,7 @@ use Rattle.codes.specs.Block.{Content}
 use Rattle.blocks.specs.Block.{book_length, block_of, put_block}
 use Rattle.blocks.specs.Content.{holding}
 use Rattle.steps.specs.Book.{Copy, History, Book}
-use Rattle.steps.specs.Calls.{segments_named, old_of, latest, remember}
+use Rattle.steps.specs.Calls.{segments_named, steps_most, old_of, latest, remember}
 use Rattle.layout.specs.Layout.{segment_of, held_of}
 use Rattle.layout.specs.Lies.{Lies}
 use Rattle.layout.specs.Rule.{segments_said}
@@ -193,11 +193,9 @@ room_forgotten l m n is full forgets b lies =
     subst (λ (z : List (List Copy)). Lies m (with_kept b z)) (room_full b.history.kept all) (forgets b lies all)
 
 -- fewer than 16 steps
-pub fewer : (l : List ℕ) (n : ℕ) → n ≡ get_or l 24 0 → get_or l 24 0 ≤ 16 → n ≢ 16 → get_or l 24 0 ≤ 15
-fewer l n is most d = by_order n 16 (λ h. omega arith) (λ h. let e : n ≡ 16 = omega arith in impossible (d e))
-
-pub room_there : (l : List ℕ) → get_or l 24 0 ≤ 15 → MakesRoom l l
-room_there l few b lies =
+pub room_there : (l : List ℕ) (n : ℕ) → n ≡ get_or l 24 0 → get_or l 24 0 ≤ steps_most → n ≢ 16 → MakesRoom l l
+room_there l n is most d b lies =
+    let few : n < 16 = by_order n 16 (λ h. h) (λ h. let e : n ≡ 16 = omega arith in impossible (d e)) in
     let count : get_or l 24 0 ≡ length b.history.kept = lies_count l b lies in
     subst (λ (z : List (List Copy)). Lies l (with_kept b z)) (room_few b.history.kept (omega arith)) lies
 

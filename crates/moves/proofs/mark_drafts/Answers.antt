@@ -1,6 +1,13 @@
-use Rattle.moves.proofs.DraftsStale.{drafts_marked}
+use Rattle.moves.proofs.DraftsStale.{marks, marks_more, drafts_marked}
+use Rattle.std.proofs.Common.{rules, refl, arith}
 use Rattle.moves.proofs.mark_drafts.Goals as goal
 
+pub loop-d-init : goal.loop-d-init
+unfolding marks
+loop-d-init c = refl
+
+pub loop-d-preserved : goal.loop-d-preserved
+loop-d-preserved c = search (marks_more, rules)
+
 pub returns : goal.returns
-returns c = drafts_marked c.args.book.now _ _ _ _ c.args.s c.requires.1 c.mark_draft.ensures c.mark_draft-2.ensures c.mark_draft-3.ensures
-    c.mark_draft-4.ensures
+returns c = drafts_marked _ _ _ _ c.requires c.loop-d.invariant (omega arith) (omega arith)

@@ -1,6 +1,6 @@
-use native.Mathlib.Omega.{arith}
 use Rattle.moves.proofs.Drafts.{opened}
+use Rattle.std.proofs.Common.{rules}
 use Rattle.moves.proofs.open_draft.Goals as goal
 
 pub returns : goal.returns
-returns c = λ b s e. opened c.args.book.now b c.args.d (omega arith) (omega arith) s e
+returns c = search (opened, rules)
