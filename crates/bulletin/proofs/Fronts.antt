@@ -1,10 +1,11 @@
 -- The MND block, its storm, and where the segments start: one law for each way out. Assumes nothing.
+use Rattle.heading.specs.declared.StormId.{StormId}
+use Rattle.std.specs.Prelude.{Option, None, Some, option_map}
 use Prim.Native.Nat.{ℕ, ◌+◌, ◌-◌, ◌≤◌}
 use native.Mathlib.Omega.{arith}
 use mathlib.Core.Path.{◌≡◌, refl, sym, ap, ◌∙◌}
 use mathlib.Core.List.{List, [], ◌∷◌}
 use mathlib.Core.Bool.{Bool, true, false, cond}
-use Rattle.std.specs.Prelude.{Option, None, Some}
 use lib.ListN.{length, drop, length-drop}
 use borrow.Author.Tests.{eqb-true}
 use Rattle.laws.proofs.Tests.{by, apart, and_left}
@@ -12,17 +13,13 @@ use Rattle.refusal.specs.Numbers.{wrong_block, no_segment, wrong_storm}
 use Rattle.refusal.specs.Answer.{Answer, ok, no, refusal_for}
 use Rattle.lines.specs.Bytes.{begins, exactly}
 use Rattle.lines.specs.Lines.{Line, blank, opens}
-use Rattle.lines.specs.Spans.{span_at, paper_lined, part}
+use Rattle.lines.specs.Spans.{span_at, part}
 use Rattle.lines.specs.declared.Span.{Span}
-use Rattle.lines.specs.declared.Lined.{Lined}
-use Rattle.lines.specs.declared.Lined.TheVariants as lined
 use Rattle.lines.proofs.Ends.{end_of, line_at, lines_step, lines_last, found_none, found_here, found_end, span_inside}
 use Rattle.lines.proofs.Strings.{exactly_is}
 use Rattle.heading.specs.Storm as storm
 use Rattle.heading.specs.Storm.{is_office, storm_form, names_storm, StormName, storm_of}
-use Rattle.heading.specs.Paper.{paper_storm, paper_named}
-use Rattle.heading.specs.declared.Storm.{Storm}
-use Rattle.heading.specs.declared.Storm.TheVariants as named
+use Rattle.heading.specs.Paper.{paper_id, paper_named}
 use Rattle.heading.specs.declared.Named.{Named}
 use Rattle.heading.specs.declared.Named.TheVariants as naming
 use Rattle.segments.specs.Search.{from_first, up_to_first, closes}
@@ -30,8 +27,6 @@ use Rattle.segments.specs.Searching.{office_or_close, lines_on, found_lines, Lin
 use Rattle.bulletin.specs.Mnd.{storm_said, office_storm}
 use Rattle.bulletin.specs.Starts.{from_line3}
 use Rattle.bulletin.specs.Front.{paper_stormed, paper_start}
-use Rattle.segments.specs.declared.Found.{Found}
-use Rattle.segments.specs.declared.Found.TheVariants as found
 use Rattle.bulletin.specs.declared.Stormed.TheVariants as stormed
 use Rattle.bulletin.specs.declared.Start.TheVariants as start
 use Rattle.segments.proofs.Seeking.{body_of}
@@ -56,12 +51,12 @@ storm_long line e =
     omega (arith, length-drop (length line - 9) line))
     (λ y. let f : storm.no_storm ≡ storm.refused_storm = rw y at e in apart cc)
 
-module _ (s : List ℕ) (from : ℕ) (f : Found) (ef : found_lines s f ≡ from_first office_or_close (lines_on s from)) where
-  pub storm_none : f ≡ found.Nothing → paper_stormed (stormed.Right named.None) ≡ office_storm (from_first is_office (up_to_first closes (lines_on s from)))
+module _ (s : List ℕ) (from : ℕ) (f : Option Span) (ef : found_lines s f ≡ from_first office_or_close (lines_on s from)) where
+  pub storm_none : f ≡ None → paper_stormed (stormed.Right None) ≡ office_storm (from_first is_office (up_to_first closes (lines_on s from)))
   unfolding first_storm
   storm_none q = sym (office_is (lines_on s from) ∙ rw (← ef, q))
 
-  module _ (i : Inside s from f) (l : Span) (q : f ≡ found.Line l) (line : List ℕ) (en : line ≡ part s l.start l.end) (t : Bool) (et : t ≡ closes line) where
+  module _ (i : Inside s from f) (l : Span) (q : f ≡ Some l) (line : List ℕ) (en : line ≡ part s l.start l.end) (t : Bool) (et : t ≡ closes line) where
     abbrev a : ℕ
     a = l.start
 
@@ -70,30 +65,30 @@ module _ (s : List ℕ) (from : ℕ) (f : Found) (ef : found_lines s f ≡ from_
     here = let v : LineFrom s from l = rw q at i in v.is
 
     body_is : (line_at s a).body ≡ line
-    body_is = sym (body_of s a (lined.Line l) (sym here) l refl line en)
+    body_is = sym (body_of s a (Some l) (sym here) l refl line en)
 
     first_is : office_storm (from_first is_office (up_to_first closes (lines_on s from))) ≡ cond t (ok None) (storm_said (line_at s a) (storm_of line))
     unfolding first_storm
     first_is = office_is (lines_on s from) ∙ rw (← ef, q, lines_step s a (span_inside s l here), body_is, ← et)
 
-    pub storm_closed : t ≡ true → paper_stormed (stormed.Right named.None) ≡ office_storm (from_first is_office (up_to_first closes (lines_on s from)))
+    pub storm_closed : t ≡ true → paper_stormed (stormed.Right None) ≡ office_storm (from_first is_office (up_to_first closes (lines_on s from)))
     storm_closed y = sym (first_is ∙ rw y)
 
     module _ (n : t ≡ false) (m : Named) (em : paper_named m ≡ storm_of line) where
       said_is : office_storm (from_first is_office (up_to_first closes (lines_on s from))) ≡ storm_said (line_at s a) (paper_named m)
       said_is = first_is ∙ rw (n, em)
 
-      pub storm_right : (x : Storm) → m ≡ naming.Right x → paper_stormed (stormed.Right x) ≡ office_storm (from_first is_office (up_to_first closes (lines_on s from)))
+      pub storm_right : (x : Option StormId) → m ≡ naming.Right x → paper_stormed (stormed.Right x) ≡ office_storm (from_first is_office (up_to_first closes (lines_on s from)))
       storm_right x y = sym (said_is ∙ ap (λ (k : Named). storm_said (line_at s a) (paper_named k)) y ∙ plain x)
         where
-          plain : (x : Storm) → storm_said (line_at s a) (paper_named (naming.Right x)) ≡ ok (paper_storm x)
-          plain named.None = refl
-          plain (named.Found id) = refl
+          plain : (x : Option StormId) → storm_said (line_at s a) (paper_named (naming.Right x)) ≡ ok (option_map paper_id x)
+          plain None = refl
+          plain (Some id) = refl
 
       module _ (y : m ≡ naming.Wrong) where
         end_is : l.end ≡ a + length line
         unfolding end_of
-        end_is = found_end s a (lined.Line l) (sym here) l refl ∙ ap (λ (x : List ℕ). a + length x) body_is
+        end_is = found_end s a (Some l) (sym here) l refl ∙ ap (λ (x : List ℕ). a + length x) body_is
 
         long : 9 ≤ length line
         long = storm_long line (sym em ∙ ap paper_named y)
@@ -108,10 +103,10 @@ module _ (s : List ℕ) (from : ℕ) (f : Found) (ef : found_lines s f ≡ from_
 
 -- ---- line 3
 module _ (s : List ℕ) (third : ℕ) (past : List Line) where
-  pub place_none : (f : Lined) → paper_lined f ≡ span_at s third → f ≡ lined.Nothing → paper_start s (start.Refused (refusal_for no_segment (length s))) ≡ from_line3 past (length s) (lines_on s third)
+  pub place_none : (f : Option Span) → f ≡ span_at s third → f ≡ None → paper_start s (start.Refused (refusal_for no_segment (length s))) ≡ from_line3 past (length s) (lines_on s third)
   place_none f e q = rw (lines_last s third (found_none s third f e q))
 
-  module _ (f : Lined) (ef : paper_lined f ≡ span_at s third) (l : Span) (el : f ≡ lined.Line l) (line : List ℕ) (en : line ≡ part s third l.end) (t : Bool) (et : t ≡ blank line) where
+  module _ (f : Option Span) (ef : f ≡ span_at s third) (l : Span) (el : f ≡ Some l) (line : List ℕ) (en : line ≡ part s third l.end) (t : Bool) (et : t ≡ blank line) where
     line3 : from_line3 past (length s) (lines_on s third) ≡ cond t (ok past) (cond (opens line) (ok (lines_on s third)) (no 6 third))
     line3 = rw (lines_step s third (found_here s third f ef l el), ← body_of s third f ef l el line en, ← et)
 

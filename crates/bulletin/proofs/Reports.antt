@@ -1,9 +1,10 @@
 -- The whole bulletin: the order of reading, part after part. Assumes nothing.
+use Rattle.heading.specs.declared.StormId.{StormId}
+use Rattle.std.specs.Prelude.{Option, option_map}
 use Prim.Native.Nat.{ℕ, zero, suc}
 use native.Mathlib.Omega.{arith}
 use mathlib.Core.Path.{◌≡◌, refl, sym, ap, ◌∙◌}
 use mathlib.Core.List.{List, [], ◌∷◌}
-use Rattle.std.specs.Prelude.{Option}
 use lib.ListN.{length, take}
 use Rattle.laws.proofs.Tests.{impossible, apart}
 use Rattle.refusal.specs.Numbers.{no_segment}
@@ -12,9 +13,8 @@ use Rattle.refusal.specs.declared.Refusal.{Refusal}
 use Rattle.refusal.specs.declared.Verdict.{Verdict}
 use Rattle.refusal.specs.declared.Verdict.TheVariants as verdict
 use Rattle.lines.specs.Lines.{Line, blank}
-use Rattle.heading.specs.Paper.{paper_heading, paper_storm}
+use Rattle.heading.specs.Paper.{paper_heading, paper_id}
 use Rattle.heading.specs.Storm.{is_office, StormName}
-use Rattle.heading.specs.declared.Storm.{Storm}
 use Rattle.segments.specs.Search.{from_first, up_to_first, after_first, closes}
 use Rattle.segments.specs.Searching.{lines_on}
 use Rattle.bulletin.specs.Mnd.{office_storm, storm_in}
@@ -107,19 +107,19 @@ module _ (s : List ℕ) (t : Top) (mnd : ℕ) (em : lines_on s mnd ≡ after_fir
   unfolding and_then
   below_storm r q b e ks d = refused_answers s (below_of s t) ks d b r e (sym (below_is ∙ rw q))
 
-  module _ (storm : Storm) (q : x ≡ stormed.Right storm) (y : Start)
+  module _ (storm : Option StormId) (q : x ≡ stormed.Right storm) (y : Start)
       (ey : paper_start s y ≡ from_line3 (after_first closes (lines_on s mnd)) (length s) (lines_on s t.third)) where
-    placed : below_of s t ≡ and_then (paper_start s y) (λ ls. and_then (seen_of (segments_from most s t.issue ls)) (some_seen (length s) (below_top t (paper_storm storm))))
+    placed : below_of s t ≡ and_then (paper_start s y) (λ ls. and_then (seen_of (segments_from most s t.issue ls)) (some_seen (length s) (below_top t (option_map paper_id storm))))
     unfolding and_then
     placed = below_is ∙ ap (λ (k : Stormed). and_then (paper_stormed k) (λ said. and_then (from_line3 (after_first closes (lines_on s mnd)) (length s) (lines_on s t.third)) (λ ls. and_then (seen_of (segments_from most s t.issue ls)) (some_seen (length s) (below_top t said))))) q ∙ rw (← ey)
 
     pub below_place : (r : Refusal) → y ≡ start.Refused r → (b : Bulletin) → b ≡ refused_for r → (ks d : List ℕ) → Answers s (below_of s t) ks d b
     unfolding and_then
-    below_place r z b e ks d = refused_answers s (below_of s t) ks d b r e (sym (placed ∙ ap (λ (k : Start). and_then (paper_start s k) (λ ls. and_then (seen_of (segments_from most s t.issue ls)) (some_seen (length s) (below_top t (paper_storm storm))))) z))
+    below_place r z b e ks d = refused_answers s (below_of s t) ks d b r e (sym (placed ∙ ap (λ (k : Start). and_then (paper_start s k) (λ ls. and_then (seen_of (segments_from most s t.issue ls)) (some_seen (length s) (below_top t (option_map paper_id storm))))) z))
 
     pub below_listed : (a : ℕ) → y ≡ start.From a → (b : Bulletin) (ks d : List ℕ) → Answers s (listed_of s a (head_of t storm)) ks d b → Answers s (below_of s t) ks d b
     unfolding and_then listed_of
-    below_listed a z b ks d e = answers_as s (listed_of s a (head_of t storm)) (below_of s t) ks d b (sym (placed ∙ ap (λ (k : Start). and_then (paper_start s k) (λ ls. and_then (seen_of (segments_from most s t.issue ls)) (some_seen (length s) (below_top t (paper_storm storm))))) z)) e
+    below_listed a z b ks d e = answers_as s (listed_of s a (head_of t storm)) (below_of s t) ks d b (sym (placed ∙ ap (λ (k : Start). and_then (paper_start s k) (λ ls. and_then (seen_of (segments_from most s t.issue ls)) (some_seen (length s) (below_top t (option_map paper_id storm))))) z)) e
 
 -- ---- the order, cut in three: the text, the top, and what is below
 then_then : {A B C : Type 0} (a : Answer A) (f : A → Answer B) (g : B → Answer C) → and_then (and_then a f) g ≡ and_then a (λ x. and_then (f x) g)

@@ -1,4 +1,5 @@
 -- The top of a bulletin: lines 1 and 2 and the issue. Assumes nothing.
+use Rattle.std.specs.Prelude.{Option, None, Some, option_map}
 use Prim.Native.Nat.{ℕ, ◌≤◌}
 use native.Mathlib.Omega.{arith}
 use mathlib.Core.Path.{◌≡◌, sym, ap, ◌∙◌}
@@ -13,20 +14,13 @@ use Rattle.refusal.specs.declared.Verdict.{Verdict}
 use Rattle.refusal.specs.declared.Verdict.TheVariants as verdict
 use Rattle.lines.specs.Lines.{lines_of}
 use Rattle.lines.specs.Check.{check_text}
-use Rattle.lines.specs.Spans.{span_at, paper_lined, part}
+use Rattle.lines.specs.Spans.{span_at, part}
 use Rattle.lines.specs.declared.Span.{Span}
-use Rattle.lines.specs.declared.Lined.{Lined}
-use Rattle.lines.specs.declared.Lined.TheVariants as lined
 use Rattle.lines.proofs.Ends.{next_of, next_last, next_within, lines_step, lines_last, found_none, found_here, found_next}
 use Rattle.calendar.specs.Calendar.{is_issue_month, minute_of}
-use Rattle.calendar.specs.Paper.{paper_moment}
-use Rattle.calendar.specs.declared.Moment.{Moment}
-use Rattle.calendar.specs.declared.Moment.TheVariants as moment
 use Rattle.heading.specs.Heading.{heading_of, is_identifier}
-use Rattle.heading.specs.Paper.{paper_headed, paper_heading}
+use Rattle.heading.specs.Paper.{paper_heading}
 use Rattle.heading.specs.declared.Heading.{Heading}
-use Rattle.heading.specs.declared.Headed.{Headed}
-use Rattle.heading.specs.declared.Headed.TheVariants as headed
 use Rattle.segments.specs.Search.{lines_after}
 use Rattle.segments.specs.Searching.{lines_on}
 use Rattle.bulletin.specs.Bulletin as rule
@@ -57,7 +51,7 @@ later_is s at =
     by_order at (length s) (λ h. rw (lines_step s at h))
     (λ h. ap lines_after (lines_last s at h) ∙ sym (ap (lines_on s) (next_last s at h) ∙ lines_last s at h))
 
-module _ (s : List ℕ) (at : ℕ) (f : Lined) (e : paper_lined f ≡ span_at s at) (l : Span) (z : f ≡ lined.Line l) (line : List ℕ) (q : line ≡ part s at l.end) where
+module _ (s : List ℕ) (at : ℕ) (f : Option Span) (e : f ≡ span_at s at) (l : Span) (z : f ≡ Some l) (line : List ℕ) (q : line ≡ part s at l.end) where
   line1_is : line1 (lines_on s at) ≡ rule.headed (heading_of line)
   line1_is = rw (lines_step s at (found_here s at f e l z), ← body_of s at f e l z line q)
 
@@ -65,14 +59,14 @@ module _ (s : List ℕ) (at : ℕ) (f : Lined) (e : paper_lined f ≡ span_at s 
   line2_is = rw (lines_step s at (found_here s at f e l z), ← body_of s at f e l z line q)
 
 -- ---- 3, 4, 5
-pub top_empty : (s : List ℕ) (year month : ℕ) (f : Lined) → paper_lined f ≡ span_at s 0 → f ≡ lined.Nothing
+pub top_empty : (s : List ℕ) (year month : ℕ) (f : Option Span) → f ≡ span_at s 0 → f ≡ None
     → (r : Topped) → r ≡ topped.Refused (refusal_for wrong_heading 0) → paper_topped s r ≡ top_of s year month
 unfolding top_of and_then
 top_empty s year month f e q r p = rw (p, lines_last s 0 (found_none s 0 f e q))
 
 -- line 2, which starts at `second`, and the issue
-module _ (s : List ℕ) (year month second : ℕ) (g : Heading) (fb : Lined) (eb : paper_lined fb ≡ span_at s second) where
-  pub second_short : second ≤ length s → fb ≡ lined.Nothing → (r : Topped) → r ≡ topped.Refused (refusal_for wrong_identifier second)
+module _ (s : List ℕ) (year month second : ℕ) (g : Heading) (fb : Option Span) (eb : fb ≡ span_at s second) where
+  pub second_short : second ≤ length s → fb ≡ None → (r : Topped) → r ≡ topped.Refused (refusal_for wrong_identifier second)
       → paper_topped s r ≡ second_of s year month (lines_on s second) (paper_heading g)
   unfolding second_of and_then
   second_short h z r e =
@@ -80,7 +74,7 @@ module _ (s : List ℕ) (year month second : ℕ) (g : Heading) (fb : Lined) (eb
       let m : length s ≡ second = omega arith in
       rw (e, lines_last s second k, m)
 
-  module _ (b : Span) (qb : fb ≡ lined.Line b) (name : List ℕ) (en : name ≡ part s second b.end) (t : Bool) (et : t ≡ is_identifier name) where
+  module _ (b : Span) (qb : fb ≡ Some b) (name : List ℕ) (en : name ≡ part s second b.end) (t : Bool) (et : t ≡ is_identifier name) where
     second_line : line2 (length s) (lines_on s second) ≡ cond t (ok second) (no 4 second)
     second_line = line2_is s second fb eb b qb name en ∙ rw (← et)
 
@@ -89,8 +83,8 @@ module _ (s : List ℕ) (year month second : ℕ) (g : Heading) (fb : Lined) (eb
     unfolding second_of and_then
     second_identifier n r e = rw (e, second_line, n)
 
-    module _ (y : t ≡ true) (m : Moment) (em : paper_moment m ≡ minute_of (record { year = year; month = month; stamp = g.stamp })) where
-      pub second_issue : m ≡ moment.Nothing → (r : Topped) → r ≡ topped.Refused (refusal_for wrong_time 0)
+    module _ (y : t ≡ true) (m : Option ℕ) (em : m ≡ minute_of (record { year = year; month = month; stamp = g.stamp })) where
+      pub second_issue : m ≡ None → (r : Topped) → r ≡ topped.Refused (refusal_for wrong_time 0)
           → paper_topped s r ≡ second_of s year month (lines_on s second) (paper_heading g)
       unfolding second_of and_then
       second_issue n r e = rw (e, second_line, y, ← em, n)
@@ -98,29 +92,29 @@ module _ (s : List ℕ) (year month second : ℕ) (g : Heading) (fb : Lined) (eb
       third_lines : lines_after (lines_on s second) ≡ lines_on s b.next
       third_lines = later_is s second ∙ ap (lines_on s) (sym (found_next s second fb eb b qb))
 
-      pub second_right : (issue : ℕ) → m ≡ moment.At issue
+      pub second_right : (issue : ℕ) → m ≡ Some issue
           → paper_topped s (topped.Right (record { heading = g; identifier = second; issue = issue; third = b.next }))
           ≡ second_of s year month (lines_on s second) (paper_heading g)
       unfolding second_of and_then
       second_right issue z = rw (second_line, y, ← em, z, third_lines)
 
-module _ (s : List ℕ) (year month : ℕ) (fa : Lined) (ea : paper_lined fa ≡ span_at s 0) (a : Span) (qa : fa ≡ lined.Line a) (line : List ℕ) (el : line ≡ part s 0 a.end) (h : Headed) (eh : paper_headed h ≡ heading_of line) where
-  heading_is : line1 (lines_of s) ≡ rule.headed (paper_headed h)
+module _ (s : List ℕ) (year month : ℕ) (fa : Option Span) (ea : fa ≡ span_at s 0) (a : Span) (qa : fa ≡ Some a) (line : List ℕ) (el : line ≡ part s 0 a.end) (h : Option Heading) (eh : option_map paper_heading h ≡ heading_of line) where
+  heading_is : line1 (lines_of s) ≡ rule.headed (option_map paper_heading h)
   heading_is = line1_is s 0 fa ea a qa line el ∙ rw eh
 
-  pub top_heading : h ≡ headed.Wrong → (r : Topped) → r ≡ topped.Refused (refusal_for wrong_heading 0) → paper_topped s r ≡ top_of s year month
+  pub top_heading : h ≡ None → (r : Topped) → r ≡ topped.Refused (refusal_for wrong_heading 0) → paper_topped s r ≡ top_of s year month
   unfolding top_of and_then
   top_heading q r e =
-      let w : line1 (lines_of s) ≡ no 3 0 = heading_is ∙ ap (λ (x : Headed). rule.headed (paper_headed x)) q in
+      let w : line1 (lines_of s) ≡ no 3 0 = heading_is ∙ ap (λ (x : Option Heading). rule.headed (option_map paper_heading x)) q in
       rw (e, w)
 
   pub second_within : a.next ≤ length s
   second_within = omega (arith, found_next s 0 fa ea a qa, next_within s 0 (omega arith))
 
-  pub top_second : (g : Heading) → h ≡ headed.Right g → (r : Topped) → paper_topped s r ≡ second_of s year month (lines_on s a.next) (paper_heading g)
+  pub top_second : (g : Heading) → h ≡ Some g → (r : Topped) → paper_topped s r ≡ second_of s year month (lines_on s a.next) (paper_heading g)
       → paper_topped s r ≡ top_of s year month
   unfolding top_of and_then
   top_second g q r e =
-      let first-line : line1 (lines_of s) ≡ ok (paper_heading g) = heading_is ∙ ap (λ (x : Headed). rule.headed (paper_headed x)) q in
+      let first-line : line1 (lines_of s) ≡ ok (paper_heading g) = heading_is ∙ ap (λ (x : Option Heading). rule.headed (option_map paper_heading x)) q in
       let next-lines : lines_after (lines_of s) ≡ lines_on s a.next = later_is s 0 ∙ ap (lines_on s) (sym (found_next s 0 fa ea a qa)) in
       rw (first-line, next-lines) e

@@ -1,12 +1,12 @@
 -- Serves the code: what its answers mean, up to the first segment, and the order of reading up to there.
+use Rattle.std.specs.Prelude.{Option, option_map}
 use Rattle.std.specs.Prelude.{ℕ, length, List}
 use Rattle.refusal.specs.Numbers.{wrong_length, wrong_time}
 use Rattle.lines.specs.Check.{check_text}
 use Rattle.calendar.specs.Calendar.{is_issue_month, minute_of}
 use Rattle.heading.specs.Heading.{Heading}
 use Rattle.heading.specs.Storm.{StormName}
-use Rattle.heading.specs.Paper.{paper_heading, paper_storm}
-use Rattle.std.specs.Prelude.{Option}
+use Rattle.heading.specs.Paper.{paper_heading, paper_id}
 use Rattle.refusal.specs.Answer.{Answer, ok, must, and_then, paper_refusal}
 use Rattle.lines.specs.Lines.{Line, lines_of}
 use Rattle.segments.specs.Search.{lines_after}
@@ -20,7 +20,7 @@ use Rattle.bulletin.specs.declared.Start.{Start}
 use Rattle.bulletin.specs.declared.Start.TheVariants as start
 
 abbrev pub paper_stormed : Stormed → Answer (Option StormName)
-paper_stormed (stormed.Right s) = ok (paper_storm s)
+paper_stormed (stormed.Right s) = ok (option_map paper_id s)
 paper_stormed (stormed.Refused r) = paper_refusal r
 
 abbrev pub paper_start : List ℕ → Start → Answer (List Line)

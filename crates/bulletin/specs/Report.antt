@@ -1,10 +1,10 @@
 -- The reader's answer: what a bulletin says, with each segment's places in the text, purge minute and count.
+use Rattle.std.specs.Prelude.{Option, option_map}
 use Rattle.std.specs.Prelude.{ℕ, ◌≡◌, List, [], map}
-use Rattle.std.specs.Prelude.{Option}
 use Rattle.refusal.specs.Answer.{Answer, ok, no, paper_refusal}
 use Rattle.heading.specs.Heading.{Heading}
 use Rattle.heading.specs.Storm.{StormName}
-use Rattle.heading.specs.Paper.{paper_heading, paper_storm}
+use Rattle.heading.specs.Paper.{paper_heading, paper_id}
 use Rattle.bulletin.specs.Bulletin as rule
 use Rattle.segments.specs.Seen.{seen, segments_for, segments_held}
 use Rattle.segments.specs.declared.Segment.{Segment}
@@ -27,7 +27,7 @@ reported (no number place) = no number place
 
 -- ---- the code's answer
 abbrev pub report_of : Head → List Segment → Report
-report_of h gs = record { heading = paper_heading h.heading; identifier = h.identifier; issue = h.issue; storm = paper_storm h.storm; segments = gs }
+report_of h gs = record { heading = paper_heading h.heading; identifier = h.identifier; issue = h.issue; storm = option_map paper_id h.storm; segments = gs }
 
 abbrev pub reading_of : Reading → Segments → Answer Report
 reading_of (reading.Accepted h) gs = ok (report_of h (segments_held gs))

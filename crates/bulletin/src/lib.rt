@@ -18,15 +18,14 @@ ghost use Rattle.heading.specs.Storm.{is_office};
 ghost use Rattle.refusal.specs.Answer.{paper_verdict, refusal_for};
 ghost use Rattle.refusal.specs.Numbers.{no_such_segment};
 
-use calendar::{Date, Moment};
-use heading::{Headed, Heading, Named, Storm};
-use lines::Lined;
+use calendar::Date;
+use heading::{Heading, Named, StormId};
 use refusal::{Refusal, Verdict};
-use segments::{Ending, Found, Segment, Segments, Sought};
+use segments::{Ending, Segment, Segments, Sought};
 
 #[derive(Clone, Copy)]
 enum Stormed {
-    Right(Storm),
+    Right(Option<StormId>),
     Refused(Refusal),
 }
 
@@ -34,12 +33,12 @@ enum Stormed {
 fn read_storm(text: &[u8], from: usize) -> Stormed
     ensures { paper_stormed result ≡ office_storm (from_first is_office (up_to_first closes (lines_on text.now from))) }
 {
-    let Found::Line(l) = segments::first(text, from, Sought::OfficeOrClose) else {
-        return Stormed::Right(Storm::None);
+    let Some(l) = segments::first(text, from, Sought::OfficeOrClose) else {
+        return Stormed::Right(None);
     };
     let line = lines::part(text, l.start, l.end);
     if segments::closes(line) {
-        return Stormed::Right(Storm::None);
+        return Stormed::Right(None);
     }
     match heading::read_storm(line) {
         Named::Right(storm) => Stormed::Right(storm),
@@ -60,7 +59,7 @@ enum Start {
 fn first_place(text: &[u8], third: usize, mnd: usize) -> Start
     ensures { paper_start text.now result ≡ from_line3 (after_first closes (lines_on text.now mnd)) (length text.now) (lines_on text.now third) }
 {
-    let Lined::Line(l) = lines::find_line(text, third) else {
+    let Some(l) = lines::find_line(text, third) else {
         return Start::Refused(Refusal {
             number: refusal::NO_SEGMENT,
             place: text.len(),
@@ -124,13 +123,13 @@ fn read_second(text: &[u8], heading: Heading, second: usize, year: usize, month:
     requires { second ≤ length text.now }
     ensures { paper_topped text.now result ≡ second_of text.now year month (lines_on text.now second) (paper_heading heading) }
 {
-    let Lined::Line(two) = lines::find_line(text, second) else {
+    let Some(two) = lines::find_line(text, second) else {
         return top_refused(refusal::WRONG_IDENTIFIER, second);
     };
     let name = lines::part(text, second, two.end);
     if heading::is_identifier(name) {
         let stamp = heading.stamp;
-        let Moment::At(issue) = calendar::minute_of(Date { year, month, stamp }) else {
+        let Some(issue) = calendar::minute_of(Date { year, month, stamp }) else {
             return top_refused(refusal::WRONG_TIME, 0);
         };
         return Topped::Right(Top {
@@ -147,11 +146,11 @@ fn read_second(text: &[u8], heading: Heading, second: usize, year: usize, month:
 fn read_top(text: &[u8], year: usize, month: usize) -> Topped
     ensures { paper_topped text.now result ≡ top_of text.now year month }
 {
-    let Lined::Line(one) = lines::find_line(text, 0) else {
+    let Some(one) = lines::find_line(text, 0) else {
         return top_refused(refusal::WRONG_HEADING, 0);
     };
     let line = lines::part(text, 0, one.end);
-    let Headed::Right(heading) = heading::read_heading(line) else {
+    let Some(heading) = heading::read_heading(line) else {
         return top_refused(refusal::WRONG_HEADING, 0);
     };
     read_second(text, heading, one.next, year, month)
@@ -163,7 +162,7 @@ pub struct Head {
     pub heading: Heading,
     pub identifier: usize,
     pub issue: usize,
-    pub storm: Storm,
+    pub storm: Option<StormId>,
 }
 
 #[derive(Clone, Copy)]

@@ -10,12 +10,8 @@ use Rattle.laws.proofs.Tests.{by, by_order, impossible, and_left, and_right, sam
 use Rattle.calendar.specs.declared.Stamp.{Stamp}
 use Rattle.calendar.specs.declared.Date.{Date}
 use Rattle.months.specs.declared.Month.{Month}
-use Rattle.calendar.specs.declared.Moment.TheVariants as moment
-use Rattle.calendar.specs.declared.Dated.TheVariants as dated
-use Rattle.calendar.specs.Paper.{paper_moment, paper_dated}
 use Rattle.calendar.specs.Purge.{purge_of}
-use Rattle.calendar.specs.declared.Windowed.TheVariants as windowed
-use Rattle.calendar.specs.Window.{earliest, window_of, paper_windowed}
+use Rattle.calendar.specs.Window.{earliest, window_of}
 use Rattle.months.specs.Months.{month_number, days_in, issue_months, start_of, month_of}
 use Rattle.months.specs.Serving.{Twelve, length_in, InYear}
 use Rattle.months.proofs.Laws.{start_next, days_of, start_issues, Falls, month_none}
@@ -50,16 +46,16 @@ month_issue year month issue e = same_test (issue || (eqb year 2100 && eqb month
 
 -- ---- date_of
 pub date_on : (t : ℕ) (m : Month) → Stands t m
-    → paper_dated (dated.On (record { year = m.year; month = m.month; stamp = stamp_after (t - m.start) })) ≡ date_of t
+    → (Some (record { year = m.year; month = m.month; stamp = stamp_after (t - m.start) })) ≡ date_of t
 date_on t m st = rw (st.year, st.month, st.start) (sym (date_is st.k t st.falls))
 
-pub date_none : (t : ℕ) → month_of t ≡ None → paper_dated dated.Nothing ≡ date_of t
+pub date_none : (t : ℕ) → month_of t ≡ None → None ≡ date_of t
 unfolding date_of
 date_none t q = rw q
 
 -- ---- minute_of
 module _ (d : Date) (a b : Bool) (ea : a ≡ is_month d.year d.month) (eb : b ≡ is_time d.stamp) where
-  pub minute_unusable : not (a && b) ≡ true → paper_moment moment.Nothing ≡ minute_of d
+  pub minute_unusable : not (a && b) ≡ true → None ≡ minute_of d
   unfolding minute_of
   minute_unusable h = rw (← ea, ← eb, not-true (a && b) h)
 
@@ -82,13 +78,13 @@ module _ (d : Date) (a b : Bool) (ea : a ≡ is_month d.year d.month) (eb : b �
       days_here : days_in (month_number d.year d.month) ≡ n
       days_here = let m = minute_month in days_of (month_number d.year d.month) d.year d.month (omega arith) (omega arith) ∙ sym en
 
-      pub minute_none : n < d.stamp.day → paper_moment moment.Nothing ≡ minute_of d
+      pub minute_none : n < d.stamp.day → None ≡ minute_of d
       unfolding minute_of
       minute_none g = rw (← ea, ← eb, both, days_here, lt-leb d.stamp.day n g)
 
       pub minute_here : d.stamp.day ≤ n
           → (start after : ℕ) → start ≡ start_of (month_number d.year d.month) → after ≡ (d.stamp.day - 1) * 1440 + d.stamp.hour * 60 + d.stamp.minute
-          → paper_moment (moment.At (start + after)) ≡ minute_of d
+          → (Some (start + after)) ≡ minute_of d
       unfolding minute_of minute_in
       minute_here g start after e f = rw (← ea, ← eb, both, days_here, le-leb d.stamp.day n g, e, f)
 
@@ -100,7 +96,7 @@ after_days t m st n later e =
     e ∙ ap (λ (x : ℕ). days_in (x + later)) same
 
 module _ (issue : ℕ) (s : Stamp) (u : Bool) (eu : u ≡ is_time s) where
-  pub purge_unusable : not (ltb issue 68374080 && u) ≡ true → paper_moment moment.Nothing ≡ purge_of issue s
+  pub purge_unusable : not (ltb issue 68374080 && u) ≡ true → None ≡ purge_of issue s
   purge_unusable h = sym (purge_no issue s (rw (start_issues, ← eu) (not-true (ltb issue 68374080 && u) h)))
 
   module _ (h : not (ltb issue 68374080 && u) ≡ false) where
@@ -117,7 +113,7 @@ module _ (issue : ℕ) (s : Stamp) (u : Bool) (eu : u ≡ is_time s) where
     usable_time = time_true s time
 
     module _ (from : ℕ) (ef : from ≡ earliest issue) where
-      pub purge_none : month_of from ≡ None → paper_moment moment.Nothing ≡ purge_of issue s
+      pub purge_none : month_of from ≡ None → None ≡ purge_of issue s
       purge_none q = impossible (omega (arith, month_none from q, low, start_issues))
 
       module _ (m : Month) (st : Stands from m) (after : ℕ) (ea : after ≡ (s.day - 1) * 1440 + s.hour * 60 + s.minute) where
@@ -131,7 +127,7 @@ module _ (issue : ℕ) (s : Stamp) (u : Bool) (eu : u ≡ is_time s) where
         first_test : (leb s.day m.days && leb from (m.start + after)) ≡ fits issue s st.k
         first_test = rw (ef, early_test issue (m.start + after), here_is, st.days)
 
-        pub purge_first : (leb s.day m.days && leb from (m.start + after)) ≡ true → paper_moment (moment.At (m.start + after)) ≡ purge_of issue s
+        pub purge_first : (leb s.day m.days && leb from (m.start + after)) ≡ true → (Some (m.start + after)) ≡ purge_of issue s
         purge_first t = rw here_is (sym (search_first issue st.k s early low time (sym first_test ∙ t)))
 
         module _ (t : (leb s.day m.days && leb from (m.start + after)) ≡ false) (n : ℕ) (en : n ≡ days_in (month_number m.year m.month + 1)) where
@@ -144,7 +140,7 @@ module _ (issue : ℕ) (s : Stamp) (u : Bool) (eu : u ≡ is_time s) where
           next_start : m.start + 1440 * m.days ≡ start_of (suc st.k)
           next_start = omega (arith, st.start, st.days, start_next st.k)
 
-          pub purge_second : s.day ≤ n → paper_moment (moment.At (m.start + after + 1440 * m.days)) ≡ purge_of issue s
+          pub purge_second : s.day ≤ n → (Some (m.start + after + 1440 * m.days)) ≡ purge_of issue s
           unfolding minute_in
           purge_second d =
               let there : minute_in (suc st.k) s ≡ m.start + after + 1440 * m.days = omega (arith, next_start) in
@@ -159,7 +155,7 @@ module _ (issue : ℕ) (s : Stamp) (u : Bool) (eu : u ≡ is_time s) where
               third_days = let same : st.k + 2 ≡ suc (suc st.k) = omega arith in after_days from m st l 2 el ∙ ap days_in same
 
               pub purge_third : (leb (m.start + 1440 * m.days) issue && leb s.day l) ≡ true
-                  → paper_moment (moment.At (m.start + after + 1440 * m.days + 1440 * n)) ≡ purge_of issue s
+                  → (Some (m.start + after + 1440 * m.days + 1440 * n)) ≡ purge_of issue s
               unfolding minute_in
               purge_third g =
                   let a = leb (m.start + 1440 * m.days) issue in
@@ -169,7 +165,7 @@ module _ (issue : ℕ) (s : Stamp) (u : Bool) (eu : u ≡ is_time s) where
                   let next : start_of (suc st.k) ≤ issue = omega (arith, next_start, leb-true (m.start + 1440 * m.days) issue (and_left a b g)) in
                   sym (search_third issue st.k s early low time none_first none_second next (rw (← third_days) (and_right a b g)) ∙ ap Some there)
 
-              pub purge_gone : (leb (m.start + 1440 * m.days) issue && leb s.day l) ≡ false → paper_moment moment.Nothing ≡ purge_of issue s
+              pub purge_gone : (leb (m.start + 1440 * m.days) issue && leb s.day l) ≡ false → None ≡ purge_of issue s
               purge_gone g =
                   by_order issue (m.start + 1440 * m.days)
                   (λ i. sym (search_end issue st.k s early low time none_first none_second (omega (arith, next_start))))
@@ -186,19 +182,19 @@ module _ (issue second third days : ℕ) where
   ends_third h = rw (le-ltb issue second h)
 
 -- ---- window_of
-pub window_late : (issue : ℕ) → 68374080 ≤ issue → paper_windowed windowed.Nothing ≡ window_of issue
+pub window_late : (issue : ℕ) → 68374080 ≤ issue → None ≡ window_of issue
 unfolding window_of
 window_late issue h = rw (le-ltb issue (start_of issue_months) (omega (arith, start_issues)))
 
 module _ (issue : ℕ) (low : issue < 68374080) (from : ℕ) (ef : from ≡ earliest issue) where
-  pub window_none : month_of from ≡ None → paper_windowed windowed.Nothing ≡ window_of issue
+  pub window_none : month_of from ≡ None → None ≡ window_of issue
   window_none q = impossible (omega (arith, month_none from q))
 
   pub window_is : (m : Month) (st : Stands from m) (n l end : ℕ)
       → n ≡ days_in (month_number m.year m.month + 1)
       → l ≡ days_in (month_number m.year m.month + 2)
       → end ≡ cond (ltb issue (m.start + 1440 * m.days)) (m.start + 1440 * m.days + 1440 * n) (m.start + 1440 * m.days + 1440 * n + 1440 * l)
-      → paper_windowed (windowed.Is (record {
+      → (Some (record {
         from = from;
         since = from - m.start;
         lasts = 1440 * m.days;

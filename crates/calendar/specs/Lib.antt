@@ -1,5 +1,4 @@
 pub mod Calendar
 pub mod Purge
-pub mod Paper
 pub mod Window
 pub mod Serving

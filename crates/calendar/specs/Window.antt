@@ -4,8 +4,6 @@ use Rattle.std.specs.Prelude.{Option, None, Some}
 use Rattle.months.specs.Months.{days_in, issue_months, start_of, month_of}
 use Rattle.calendar.specs.Purge.{is_purge}
 use Rattle.calendar.specs.declared.Window.{Window}
-use Rattle.calendar.specs.declared.Windowed.{Windowed}
-use Rattle.calendar.specs.declared.Windowed.TheVariants as windowed
 
 -- ---- the window of an issue
 -- The earliest minute that can be a purge minute: 1,440 before the issue, or minute 0, where the numbers start.
@@ -37,10 +35,6 @@ window_in issue (Some a) = Some (window_at issue a)
 -- An issue whose year is not 1970..2099 has none.
 unfoldable pub window_of : ℕ → Option Window
 window_of issue = cond (ltb issue (start_of issue_months)) (window_in issue (month_of (earliest issue))) None
-
-abbrev pub paper_windowed : Windowed → Option Window
-paper_windowed windowed.Nothing = None
-paper_windowed (windowed.Is w) = Some w
 
 -- ---- the minutes within it
 -- So long after a later month's start: the same DDHHMM is in the first month, and not too early.

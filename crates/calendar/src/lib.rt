@@ -4,11 +4,9 @@
 ghost use Rattle.std.specs.Prelude.{◌≡◌, ◌+◌, ◌-◌, ◌*◌, ◌≤◌, cond, ltb};
 ghost use Rattle.calendar.specs.Calendar.{is_issue_month, is_month, is_time, minute_of, date_of};
 ghost use Rattle.calendar.specs.Purge.{purge_of};
-ghost use Rattle.calendar.specs.Window.{earliest, within, window_of, paper_windowed};
-ghost use Rattle.calendar.specs.Paper.{paper_moment, paper_dated};
+ghost use Rattle.calendar.specs.Window.{earliest, within, window_of};
 ghost use Rattle.calendar.specs.Serving.{Time};
 
-use months::Found;
 
 // DDHHMM.
 #[derive(Clone, Copy)]
@@ -23,19 +21,6 @@ pub struct Date {
     pub year: usize,
     pub month: usize,
     pub stamp: Stamp,
-}
-
-// A minute, counted from 1970-01-01 0000 UTC.
-#[derive(Clone, Copy)]
-pub enum Moment {
-    At(usize),
-    Nothing,
-}
-
-#[derive(Clone, Copy)]
-pub enum Dated {
-    On(Date),
-    Nothing,
 }
 
 // 2100-01-01 0000, where the issues end.
@@ -63,14 +48,12 @@ fn is_month(year: usize, month: usize) -> bool
     is_issue_month(year, month) | ((year == 2100) & (month == 1))
 }
 
-pub fn date_of(minute: usize) -> Dated
-    ensures { paper_dated result ≡ date_of minute }
+pub fn date_of(minute: usize) -> Option<Date>
+    ensures { result ≡ date_of minute }
 {
-    let Found::In(m) = months::month_of(minute) else {
-        return Dated::Nothing;
-    };
+    let m = months::month_of(minute)?;
     let left = minute - m.start;
-    Dated::On(Date {
+    Some(Date {
         year: m.year,
         month: m.month,
         stamp: Stamp {
@@ -90,20 +73,20 @@ fn time_in(s: Stamp) -> usize
     (s.day - 1) * 1440 + s.hour * 60 + s.minute
 }
 
-pub fn minute_of(date: Date) -> Moment
-    ensures { paper_moment result ≡ minute_of date }
+pub fn minute_of(date: Date) -> Option<usize>
+    ensures { result ≡ minute_of date }
 {
     let year = date.year;
     let month = date.month;
     let s = date.stamp;
     let usable = is_month(year, month) & is_time(s);
     if !usable {
-        return Moment::Nothing;
+        return None;
     }
     if s.day <= months::month_length(year, month) {
-        return Moment::At(months::month_start(year, month) + time_in(s));
+        return Some(months::month_start(year, month) + time_in(s));
     }
-    Moment::Nothing
+    None
 }
 
 // The earliest minute that can be a purge minute. There is none before minute 0.
@@ -116,35 +99,33 @@ fn earliest(issue: usize) -> usize
     issue - LATE
 }
 
-pub fn purge_of(issue: usize, s: Stamp) -> Moment
-    ensures { paper_moment result ≡ purge_of issue s }
+pub fn purge_of(issue: usize, s: Stamp) -> Option<usize>
+    ensures { result ≡ purge_of issue s }
 {
     let usable = (issue < ISSUES) & is_time(s);
     if !usable {
-        return Moment::Nothing;
+        return None;
     }
     // It is not past the issue, so the calendar has its month.
     let from = earliest(issue);
-    let Found::In(m) = months::month_of(from) else {
-        return Moment::Nothing;
-    };
+    let m = months::month_of(from)?;
     let here = m.start + time_in(s);
     if (s.day <= m.days) & (from <= here) {
-        return Moment::At(here);
+        return Some(here);
     }
     // No minute of a later month is too early.
     let lasts = 1440 * m.days;
     let next = here + lasts;
     let days = months::length_after(m.year, m.month, 1);
     if s.day <= days {
-        return Moment::At(next);
+        return Some(next);
     }
     // If the issue itself is of the next month, the month after it is the third from here.
     let last = months::length_after(m.year, m.month, 2);
     if (m.start + lasts <= issue) & (s.day <= last) {
-        return Moment::At(next + 1440 * days);
+        return Some(next + 1440 * days);
     }
-    Moment::Nothing
+    None
 }
 
 // The minutes that are their own purge minute under an issue. It is worked out once for the issue, and then asked of each minute.
@@ -163,12 +144,6 @@ pub struct Window {
     pub end: usize,
 }
 
-#[derive(Clone, Copy)]
-pub enum Windowed {
-    Is(Window),
-    Nothing,
-}
-
 // Where the month after the issue's ends. The issue is of the first month, which the second follows, or of the second; the third has so many days.
 fn end_after(issue: usize, second: usize, third: usize, days: usize) -> usize
     requires { third ≤ 100000000 × days ≤ 31 }
@@ -180,17 +155,15 @@ fn end_after(issue: usize, second: usize, third: usize, days: usize) -> usize
     third + 1440 * days
 }
 
-pub fn window_of(issue: usize) -> Windowed
-    ensures { paper_windowed result ≡ window_of issue }
+pub fn window_of(issue: usize) -> Option<Window>
+    ensures { result ≡ window_of issue }
 {
     if ISSUES <= issue {
-        return Windowed::Nothing;
+        return None;
     }
     // It is not past the issue, so the calendar has its month.
     let from = earliest(issue);
-    let Found::In(m) = months::month_of(from) else {
-        return Windowed::Nothing;
-    };
+    let m = months::month_of(from)?;
     let lasts = 1440 * m.days;
     let then = 1440 * months::length_after(m.year, m.month, 1);
     let second = m.start + lasts;
@@ -201,7 +174,7 @@ pub fn window_of(issue: usize) -> Windowed
         third,
         months::length_after(m.year, m.month, 2),
     );
-    Windowed::Is(Window {
+    Some(Window {
         from,
         since: from - m.start,
         lasts,

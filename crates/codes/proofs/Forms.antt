@@ -19,10 +19,7 @@ use Rattle.calendar.specs.declared.Stamp.{Stamp}
 use Rattle.codes.specs.Places.{prefix_of, two_of, three_of}
 use Rattle.codes.specs.Elements.{single_form, range_form, purge_form, numbers, stamp_of, time, short, said}
 use Rattle.codes.specs.Elements as elements
-use Rattle.codes.specs.Cursor.{paper_last, element_at, covered_for, covered_at, Usual, said_of_purge, last_of_line, purge_at}
-use Rattle.codes.specs.declared.Last.{Last}
-use Rattle.codes.specs.declared.Last.TheVariants.{Prefix}
-use Rattle.codes.specs.declared.Last.TheVariants as last
+use Rattle.codes.specs.Cursor.{element_at, covered_for, covered_at, Usual, said_of_purge, last_of_line, purge_at}
 use Rattle.codes.specs.declared.Covered.{Covered}
 use Rattle.codes.specs.declared.Step.{Step}
 use Rattle.codes.proofs.ByPlace.{element_of, goes_on, begins_same, exactly_same, drop_same, begins_room, begins_short, exactly_length, two_same, three_same, prefix_same}
@@ -167,7 +164,7 @@ other_length : (ks : List Kind) (s : List ℕ) → (length s ≡ length ks → �
 other_length ks s l = exactly_is ks s ∙ rw (ne_eqb (length s) (length ks) l)
 
 module _ (s : List ℕ) (i p : ℕ) where
-  pub numbers_single : begins single_form (drop i s) ≡ true → (n : ℕ) → n ≡ three_of (drop i s) → Covered.Numbers p n n (i + 4) ≡ covered_at s i (numbers p (element_at s i))
+  pub numbers_single : begins single_form (drop i s) ≡ true → (n : ℕ) → n ≡ three_of (drop i s) → Some (record { prefix = p; first = n; last = n; after = i + 4 }) ≡ covered_at s i (numbers p (element_at s i))
   unfolding numbers covered_at
   numbers_single e n en =
       let x : exactly single_form (element_at s i) ≡ true = single_is s i ∙ e in
@@ -179,14 +176,14 @@ module _ (s : List ℕ) (i p : ℕ) where
     no_single : exactly single_form (element_at s i) ≡ false
     no_single = single_is s i ∙ sym ed ∙ nd
 
-    pub numbers_all : a ≡ true → Covered.Numbers p 0 0 (i + 4) ≡ covered_at s i (numbers p (element_at s i))
+    pub numbers_all : a ≡ true → Some (record { prefix = p; first = 0; last = 0; after = i + 4 }) ≡ covered_at s i (numbers p (element_at s i))
     unfolding numbers covered_at
     numbers_all y =
         let x : exactly (word "ALL-") (element_at s i) ≡ true = all_is s i ∙ sym ea ∙ y in
         let l : length (element_at s i) ≡ 4 = exactly_length (word "ALL-") (element_at s i) x in
         rw (no_single, x, l)
 
-    pub numbers_none : a ≡ false → (r : Bool) → r ≡ begins range_form (drop i s) → r ≡ false → Covered.Nothing ≡ covered_at s i (numbers p (element_at s i))
+    pub numbers_none : a ≡ false → (r : Bool) → r ≡ begins range_form (drop i s) → r ≡ false → None ≡ covered_at s i (numbers p (element_at s i))
     unfolding numbers covered_at
     numbers_none na r er nr =
         let no_all : exactly (word "ALL-") (element_at s i) ≡ false = all_is s i ∙ sym ea ∙ na in
@@ -211,11 +208,11 @@ module _ (s : List ℕ) (i p : ℕ) where
     ordered t o =
         rw (other_length single_form (element_at s i) (λ x. omega (arith, eight)), other_length (word "ALL-") (element_at s i) (λ x. omega (arith, eight)), range_form_lem, first_is, last_is, o)
 
-    pub range_covers : (leb 1 first && ltb first last) ≡ true → Covered.Numbers p first last (i + 8) ≡ covered_at s i (numbers p (element_at s i))
+    pub range_covers : (leb 1 first && ltb first last) ≡ true → Some (record { prefix = p; first = first; last = last; after = i + 8 }) ≡ covered_at s i (numbers p (element_at s i))
     unfolding covered_at
     range_covers o = rw (ordered true o, eight)
 
-    pub range_order : (leb 1 first && ltb first last) ≡ false → Covered.Nothing ≡ covered_at s i (numbers p (element_at s i))
+    pub range_order : (leb 1 first && ltb first last) ≡ false → None ≡ covered_at s i (numbers p (element_at s i))
     unfolding covered_at
     range_order o = rw (ordered false o)
 
@@ -244,23 +241,23 @@ module _ (s : List ℕ) (at : ℕ) where
         let long : length (element_at s at) ≡ length (three_digits ++ ks) = exactly_length (three_digits ++ ks) (element_at s at) (form-at ∙ stands) in
         rw (other_length purge_form (element_at s at) (λ x. other (sym long ∙ x)), prefix_begins, digits_no_prefix s at ks stands)
 
-    usual : (p : ℕ) (r : Covered) → r ≡ covered_at s at (numbers p (element_at s at)) → Usual s at p r
+    usual : (p : ℕ) (r : Option Covered) → r ≡ covered_at s at (numbers p (element_at s at)) → Usual s at p r
     unfolding short
-    usual p r q = record { is = λ q' n m after e. q ∙ ap (covered_at s at) (sym (usual_said (Some p))) }
+    usual p r q = record { is = λ k e. q ∙ ap (covered_at s at) (sym (usual_said (Some p))) }
 
-  pub usual_single : (d : Bool) → d ≡ begins single_form (drop at s) → d ≡ true → (p : ℕ) (r : Covered) → r ≡ covered_at s at (numbers p (element_at s at)) → Usual s at p r
+  pub usual_single : (d : Bool) → d ≡ begins single_form (drop at s) → d ≡ true → (p : ℕ) (r : Option Covered) → r ≡ covered_at s at (numbers p (element_at s at)) → Usual s at p r
   usual_single = usual (word "-") (single_is s at) (λ e. let no : ⊥ = omega arith in no)
 
-  pub usual_range : (d : Bool) → d ≡ begins range_form (drop at s) → d ≡ true → (p : ℕ) (r : Covered) → r ≡ covered_at s at (numbers p (element_at s at)) → Usual s at p r
+  pub usual_range : (d : Bool) → d ≡ begins range_form (drop at s) → d ≡ true → (p : ℕ) (r : Option Covered) → r ≡ covered_at s at (numbers p (element_at s at)) → Usual s at p r
   usual_range = usual (word ">" ++ (three_digits ++ word "-")) (range_is s at) (λ e. let no : ⊥ = omega arith in no)
 
-  pub usual_none : (p : ℕ) → Usual s at p Covered.Nothing
-  usual_none p = record { is = λ q n m after e. apart cc }
+  pub usual_none : (p : ℕ) → Usual s at p None
+  usual_none p = record { is = λ k e. apart cc }
 
   -- ---- where the two forms meet: the numbers stand under a full element's own prefix and behind it, or under the last prefix and at the front
-  time_none : (a : ℕ) (t : Stamp) → covered_for a (time t) ≡ Covered.Nothing
+  time_none : (a : ℕ) (t : Stamp) → covered_for a (time t) ≡ None
   unfolding time
-  time_none a t = either_way (λ (x : elements.Said). covered_for a x ≡ Covered.Nothing) (is_time t) refl refl
+  time_none a t = either_way (λ (x : elements.Said). covered_for a x ≡ None) (is_time t) refl refl
 
   purge_short : (l : Option ℕ) → length (element_at s at) ≡ 7 → short l (element_at s at) ≡ elements.wrong
   unfolding short numbers
@@ -268,9 +265,9 @@ module _ (s : List ℕ) (at : ℕ) where
   purge_short (Some p) h =
       rw (other_length single_form (element_at s at) (λ x. omega arith), other_length (word "ALL-") (element_at s at) (λ x. omega arith), other_length range_form (element_at s at) (λ x. omega arith))
 
-  module _ (l : Last) (f : Bool) (ef : f ≡ begins prefix_form (drop at s)) (under : Last) (i : ℕ) where
-    pub meets_full : f ≡ true → (p : ℕ) → p ≡ prefix_of (drop at s) → under ≡ Prefix p → i ≡ at + 3
-        → covered_at s at (said (paper_last l) (element_at s at)) ≡ covered_at s i (short (paper_last under) (element_at s i))
+  module _ (l : Option ℕ) (f : Bool) (ef : f ≡ begins prefix_form (drop at s)) (under : Option ℕ) (i : ℕ) where
+    pub meets_full : f ≡ true → (p : ℕ) → p ≡ prefix_of (drop at s) → under ≡ Some p → i ≡ at + 3
+        → covered_at s at (said l (element_at s at)) ≡ covered_at s i (short under (element_at s i))
     unfolding covered_at said short
     meets_full y p ep eu ei =
         let full : begins prefix_form (drop at s) ≡ true = sym ef ∙ y in
@@ -284,19 +281,19 @@ module _ (s : List ℕ) (at : ℕ) where
         omega (arith, length-drop 3 (element_at s at), ap length rest, begins_room prefix_form (element_at s at) (prefix_begins ∙ full)) in
         rw (ei, eu, no-purge, prefix_begins, full, own, rest, long)
 
-    pub meets_short : f ≡ false → under ≡ l → i ≡ at → covered_at s at (said (paper_last l) (element_at s at)) ≡ covered_at s i (short (paper_last under) (element_at s i))
+    pub meets_short : f ≡ false → under ≡ l → i ≡ at → covered_at s at (said l (element_at s at)) ≡ covered_at s i (short under (element_at s i))
     unfolding covered_at said
     meets_short n eu ei =
         by (exactly purge_form (element_at s at))
-        (λ q. rw (ei, eu, q, purge_short (paper_last l) (exactly_length purge_form (element_at s at) q)) (time_none _ (stamp_of (element_at s at))))
+        (λ q. rw (ei, eu, q, purge_short l (exactly_length purge_form (element_at s at) q)) (time_none _ (stamp_of (element_at s at))))
         λ q. rw (ei, eu, q, prefix_begins, ← ef, n)
 
-module _ (s : List ℕ) (at : ℕ) (l under : Last) (i : ℕ) (m : covered_at s at (said (paper_last l) (element_at s at)) ≡ covered_at s i (short (paper_last under) (element_at s i))) where
-  pub any_none : under ≡ last.Nothing → Covered.Nothing ≡ covered_at s at (said (paper_last l) (element_at s at))
+module _ (s : List ℕ) (at : ℕ) (l under : Option ℕ) (i : ℕ) (m : covered_at s at (said l (element_at s at)) ≡ covered_at s i (short under (element_at s i))) where
+  pub any_none : under ≡ None → None ≡ covered_at s at (said l (element_at s at))
   unfolding covered_at short
   any_none u = sym (m ∙ rw u)
 
-  pub any_numbers : (p : ℕ) → under ≡ Prefix p → (r : Covered) → r ≡ covered_at s i (numbers p (element_at s i)) → r ≡ covered_at s at (said (paper_last l) (element_at s at))
+  pub any_numbers : (p : ℕ) → under ≡ Some p → (r : Option Covered) → r ≡ covered_at s i (numbers p (element_at s i)) → r ≡ covered_at s at (said l (element_at s at))
   unfolding short
   any_numbers p u r q = q ∙ sym (m ∙ rw u)
 

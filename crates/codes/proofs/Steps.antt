@@ -24,8 +24,7 @@ use Rattle.codes.specs.Block.{insert_covered, Read, block, wrong_at, ended, read
 use Rattle.codes.specs.Serving.{Low}
 use Rattle.codes.proofs.Bounds.{Below, covers_low}
 use Rattle.codes.proofs.Turns.{read_covers, read_purge_lem, read_wrong}
-use Rattle.codes.specs.Cursor.{paper_last, next_place, purged, step_over, past_end, last_of_line, step_at, first_bytes, element_at, covered_for, covered_at, Usual, said_of_purge, whole_at, purge_at}
-use Rattle.codes.specs.declared.Last.TheVariants.{Prefix}
+use Rattle.codes.specs.Cursor.{next_place, purged, step_over, past_end, last_of_line, step_at, first_bytes, element_at, covered_for, covered_at, Usual, said_of_purge, whole_at, purge_at}
 use Rattle.codes.specs.declared.Covered.{Covered}
 use Rattle.codes.specs.declared.Cursor.{Cursor}
 use Rattle.codes.specs.declared.Step.{Step}
@@ -247,7 +246,7 @@ unfolding element_at
 element_part s at after r = ap first_bytes r.step
 
 step_over_lem : (s : List ℕ) (c : Cursor) → c.at < length s
-    → step_over (whole_at s c.at) (past_end s (c.at + length (element_at s c.at))) (said (paper_last c.last) (element_at s c.at)) ≡ step_at s c
+    → step_over (whole_at s c.at) (past_end s (c.at + length (element_at s c.at))) (said c.last (element_at s c.at)) ≡ step_at s c
 unfolding step_at
 step_over_lem s c h =
     let r = runs s c.at h in
@@ -258,7 +257,7 @@ step_over_lem s c h =
 -- an element that covers nothing is the purge, or wrong
 module _ (after : ℕ) where
   abbrev WrongIfNothing : elements.Said → Type 0
-  WrongIfNothing x = covered_for after x ≡ Covered.Nothing → x ≡ elements.wrong
+  WrongIfNothing x = covered_for after x ≡ None → x ≡ elements.wrong
 
   numbers_wrong : (p : ℕ) (s : List ℕ) → WrongIfNothing (numbers p s)
   unfolding numbers
@@ -272,54 +271,51 @@ module _ (after : ℕ) where
   short_wrong None s e = refl
   short_wrong (Some p) s e = numbers_wrong p s e
 
-  covers_none : (last : Option ℕ) (s : List ℕ) → covered_for after (said last s) ≡ Covered.Nothing → said last s ≡ said_of_purge s
+  covers_none : (last : Option ℕ) (s : List ℕ) → covered_for after (said last s) ≡ None → said last s ≡ said_of_purge s
   unfolding said said_of_purge
   covers_none last s e =
       by (exactly purge_form s) (λ y. rw y)
       λ n. rw n (either_way WrongIfNothing (begins prefix_form s) (numbers_wrong (prefix_of s) (drop 3 s)) (short_wrong last s) (rw n at e))
 
-  over_covers : (s : List ℕ) (here : Element) (p n m to : ℕ) (x : elements.Said) → covered_for after x ≡ Covered.Numbers p n m to
-      → Step.Covers p n m (record { at = past_end s to; last = Prefix p }) ≡ step_over here (past_end s after) x
-  over_covers s here p n m to (elements.covers p' n' m') e =
-      let ep : p' ≡ p = cc in
-      let en : n' ≡ n = cc in
-      let em : m' ≡ m = cc in
-      let et : after ≡ to = cc in
-      rw (ep, en, em, et)
-  over_covers s here p n m to (elements.purge t) e = apart cc
-  over_covers s here p n m to elements.wrong e = apart cc
+  over_covers : (s : List ℕ) (here : Element) (k : Covered) (x : elements.Said) → covered_for after x ≡ Some k
+      → Step.Covers k.prefix k.first k.last (record { at = past_end s k.after; last = Some k.prefix }) ≡ step_over here (past_end s after) x
+  over_covers s here k (elements.covers p n m) e =
+      let same : record { prefix = p; first = n; last = m; after = after } ≡ k = cc in
+      rw (← same)
+  over_covers s here k (elements.purge t) e = apart cc
+  over_covers s here k elements.wrong e = apart cc
 
-  over_none : (here : Element) (next to : ℕ) (x : elements.Said) → covered_for after x ≡ Covered.Nothing → step_over here next x ≡ step_over here to x
+  over_none : (here : Element) (next to : ℕ) (x : elements.Said) → covered_for after x ≡ None → step_over here next x ≡ step_over here to x
   over_none here next to (elements.covers p n m) e = apart cc
   over_none here next to (elements.purge t) e = refl
   over_none here next to elements.wrong e = refl
 
-module _ (s : List ℕ) (c : Cursor) (h : c.at < length s) (g : Covered) (eg : g ≡ covered_at s c.at (said (paper_last c.last) (element_at s c.at))) where
+module _ (s : List ℕ) (c : Cursor) (h : c.at < length s) (g : Option Covered) (eg : g ≡ covered_at s c.at (said c.last (element_at s c.at))) where
   abbrev after_it : ℕ
   after_it = c.at + length (element_at s c.at)
 
-  told : (x : Covered) → g ≡ x → covered_for after_it (said (paper_last c.last) (element_at s c.at)) ≡ x
+  told : (x : Option Covered) → g ≡ x → covered_for after_it (said c.last (element_at s c.at)) ≡ x
   unfolding covered_at
   told x e = sym eg ∙ e
 
-  pub step_covers : (p n m after : ℕ) → g ≡ Covered.Numbers p n m after → (next : ℕ) → next ≡ past_end s after
-      → Step.Covers p n m (record { at = next; last = Prefix p }) ≡ step_at s c
-  step_covers p n m after e next en =
-      rw en (over_covers after_it s (whole_at s c.at) p n m after (said (paper_last c.last) (element_at s c.at)) (told (Covered.Numbers p n m after) e) ∙ step_over_lem s c h)
+  pub step_covers : (k : Covered) → g ≡ Some k → (next : ℕ) → next ≡ past_end s k.after
+      → Step.Covers k.prefix k.first k.last (record { at = next; last = Some k.prefix }) ≡ step_at s c
+  step_covers k e next en =
+      rw en (over_covers after_it s (whole_at s c.at) k (said c.last (element_at s c.at)) (told (Some k) e) ∙ step_over_lem s c h)
 
-  pub step_purge : g ≡ Covered.Nothing → (r : Step) → r ≡ purge_at s c.at → r ≡ step_at s c
+  pub step_purge : g ≡ None → (r : Step) → r ≡ purge_at s c.at → r ≡ step_at s c
   unfolding purge_at
   step_purge e r er =
-      let none-covered = told Covered.Nothing e in
-      er ∙ rw (← covers_none after_it (paper_last c.last) (element_at s c.at) none-covered) (over_none after_it (whole_at s c.at) c.at (past_end s after_it) (said (paper_last c.last) (element_at s c.at)) none-covered) ∙ step_over_lem s c h
+      let none-covered = told None e in
+      er ∙ rw (← covers_none after_it c.last (element_at s c.at) none-covered) (over_none after_it (whole_at s c.at) c.at (past_end s after_it) (said c.last (element_at s c.at)) none-covered) ∙ step_over_lem s c h
 
 -- the step over a usual element
-pub step_usual : (s : List ℕ) (c : Cursor) → (c.at < length s) → (p : ℕ) → c.last ≡ Prefix p → (g : Covered) → Usual s c.at p g
-    → (q n m after : ℕ) → g ≡ Covered.Numbers q n m after → (next : ℕ) → next ≡ past_end s after
-    → Step.Covers q n m (record { at = next; last = Prefix q }) ≡ step_at s c
-step_usual s c h p ep g u q n m after e next en =
-    let told : g ≡ covered_at s c.at (said (paper_last c.last) (element_at s c.at)) = rw ep (u.is q n m after e) in
-    step_covers s c h g told q n m after e next en
+pub step_usual : (s : List ℕ) (c : Cursor) → (c.at < length s) → (p : ℕ) → c.last ≡ Some p → (g : Option Covered) → Usual s c.at p g
+    → (k : Covered) → g ≡ Some k → (next : ℕ) → next ≡ past_end s k.after
+    → Step.Covers k.prefix k.first k.last (record { at = next; last = Some k.prefix }) ≡ step_at s c
+step_usual s c h p ep g u k e next en =
+    let told : g ≡ covered_at s c.at (said c.last (element_at s c.at)) = rw ep (u.is k e) in
+    step_covers s c h g told k e next en
 
 -- the block from a step on, with the places so far
 abbrev pub read_then : List ℕ → List ℕ → Step → Read
@@ -337,13 +333,13 @@ then_over s got last e next (elements.purge t) q = read_purge_lem (length s) las
     ends_line false = refl
 then_over s got last e next elements.wrong q = read_wrong (length s) last got e _ q
 
-pub read_step : (s got : List ℕ) (c : Cursor) → read_from (length s) (paper_last c.last) got (elements_from c.at (drop c.at s)) ≡ read_then s got (step_at s c)
+pub read_step : (s got : List ℕ) (c : Cursor) → read_from (length s) c.last got (elements_from c.at (drop c.at s)) ≡ read_then s got (step_at s c)
 unfolding step_at read_from
 read_step s got c =
     by_order c.at (length s)
     (λ h. let r = runs s c.at h in
     rw (r.1.step, next_place_lem s (past_end s r.0) (past_within s r.0 r.1.high))
-    (then_over s got (paper_last c.last) (record { at = c.at; bytes = part s c.at r.0; last = last_of_line s r.0 }) (past_end s r.0) _ refl))
+    (then_over s got c.last (record { at = c.at; bytes = part s c.at r.0; last = last_of_line s r.0 }) (past_end s r.0) _ refl))
     λ h. rw (elements_last s c.at h)
 
 -- ---- a step over places goes ahead
@@ -358,20 +354,20 @@ pub record Ahead (s : List ℕ) (c : Cursor) (p n m : ℕ) (next : Cursor) : Typ
   pub within : next.at ≤ length s
   pub low : Low p n m
 
-module _ (s : List ℕ) (c : Cursor) (p n m : ℕ) (next : Cursor) (b : Below (paper_last c.last)) where
-  over : (after : ℕ) → c.at < length s → Runs s c.at after → (x : elements.Said) → said (paper_last c.last) (part s c.at after) ≡ x
+module _ (s : List ℕ) (c : Cursor) (p n m : ℕ) (next : Cursor) (b : Below c.last) where
+  over : (after : ℕ) → c.at < length s → Runs s c.at after → (x : elements.Said) → said c.last (part s c.at after) ≡ x
       → step_over (record { at = c.at; bytes = part s c.at after; last = last_of_line s after }) (past_end s after) x ≡ Step.Covers p n m next → Ahead s c p n m next
   over after h r (elements.covers p' n' m') q e =
-      let to : record { at = past_end s after; last = Prefix p' } ≡ next = cc in
+      let to : record { at = past_end s after; last = Some p' } ≡ next = cc in
       let ep : p' ≡ p = cc in
       let en : n' ≡ n = cc in
       let em : m' ≡ m = cc in
-      let some_bytes : c.at < after = by_order c.at after (λ k. k) (λ k. let z : after - c.at ≡ 0 = omega arith in let none_said : elements.wrong ≡ elements.covers p' n' m' = sym (said_empty (paper_last c.last)) ∙ (rw z at q) in apart cc) in
+      let some_bytes : c.at < after = by_order c.at after (λ k. k) (λ k. let z : after - c.at ≡ 0 = omega arith in let none_said : elements.wrong ≡ elements.covers p' n' m' = sym (said_empty c.last) ∙ (rw z at q) in apart cc) in
       record {
         inside = h;
         more = rw (← to) (omega (arith, past_more s after));
         within = rw (← to) (past_within s after r.high);
-        low = rw (← ep, ← en, ← em) (covers_low (paper_last c.last) (part s c.at after) p' n' m' b q);
+        low = rw (← ep, ← en, ← em) (covers_low c.last (part s c.at after) p' n' m' b q);
       }
   over after h r (elements.purge t) q e = purged_no (last_of_line s after) e
     where
@@ -385,5 +381,5 @@ module _ (s : List ℕ) (c : Cursor) (p n m : ℕ) (next : Cursor) (b : Below (p
   step_ahead e =
       by_order c.at (length s)
       (λ h. let r = runs s c.at h in
-      over r.0 h r.1 (said (paper_last c.last) (part s c.at r.0)) refl (rw (r.1.step, next_place_lem s (past_end s r.0) (past_within s r.0 r.1.high)) at e))
+      over r.0 h r.1 (said c.last (part s c.at r.0)) refl (rw (r.1.step, next_place_lem s (past_end s r.0) (past_within s r.0 r.1.high)) at e))
       λ h. let f : Step.Wrong (length s) ≡ Step.Covers p n m next = rw (elements_last s c.at h) at e in apart cc

@@ -17,7 +17,7 @@ use Rattle.calendar.specs.declared.Stamp.{Stamp}
 use Rattle.codes.specs.Elements.{Element, elements_from, said}
 use Rattle.codes.specs.Elements as elements
 use Rattle.codes.specs.Block.{insert_run, Stretch, stretch_of, share, covered_before, twice_from}
-use Rattle.codes.specs.Cursor.{paper_last, purged, step_over, past_end, last_of_line, step_at}
+use Rattle.codes.specs.Cursor.{purged, step_over, past_end, last_of_line, step_at}
 use Rattle.codes.specs.declared.Cursor.{Cursor}
 use Rattle.codes.specs.declared.Step.{Step}
 use Rattle.codes.proofs.Members.{run_here, run_keeps, run_from_lem}
@@ -56,13 +56,13 @@ then_over s before last e next (elements.purge t) q = twice_purge last before e 
 then_over s before last e next elements.wrong q = twice_wrong last before e _ q
 
 pub twice_step : (s : List ℕ) (before : List Stretch) (c : Cursor)
-    → twice_from (paper_last c.last) before (elements_from c.at (drop c.at s)) ≡ twice_then s c.at before (step_at s c)
+    → twice_from c.last before (elements_from c.at (drop c.at s)) ≡ twice_then s c.at before (step_at s c)
 unfolding step_at twice_from
 twice_step s before c =
     by_order c.at (length s)
     (λ h. let r = runs s c.at h in
     rw (r.1.step, next_place_lem s (past_end s r.0) (past_within s r.0 r.1.high))
-    (then_over s before (paper_last c.last) (record { at = c.at; bytes = part s c.at r.0; last = last_of_line s r.0 }) (past_end s r.0) _ refl))
+    (then_over s before c.last (record { at = c.at; bytes = part s c.at r.0; last = last_of_line s r.0 }) (past_end s r.0) _ refl))
     λ h. rw (elements_last s c.at h)
 
 -- ---- by places

@@ -8,16 +8,11 @@ use Rattle.lines.specs.Lines.{ends_line}
 use Rattle.calendar.specs.declared.Stamp.{Stamp}
 use Rattle.codes.specs.Elements.{Element, elements_from, purge_form, stamp_of, time, said}
 use Rattle.codes.specs.Elements as elements
-use Rattle.codes.specs.declared.Last.{Last}
-use Rattle.codes.specs.declared.Last.TheVariants.{Prefix, Nothing}
 use Rattle.codes.specs.declared.Covered.{Covered}
 use Rattle.codes.specs.declared.Cursor.{Cursor}
 use Rattle.codes.specs.declared.Step.{Step}
 
 -- "under the last prefix of this block", if there is one yet
-abbrev pub paper_last : Last → Option ℕ
-paper_last (Prefix p) = Some p
-paper_last Nothing = None
 
 -- ---- "the reading place moves forward one element at a time"
 -- the place of the next element, or the text's length
@@ -32,7 +27,7 @@ purged false s at after = Step.Wrong after
 
 -- what an element says, with the reading place moved past it
 abbrev pub step_over : Element → ℕ → elements.Said → Step
-step_over e next (elements.covers p n m) = Step.Covers p n m (record { at = next; last = Prefix p })
+step_over e next (elements.covers p n m) = Step.Covers p n m (record { at = next; last = Some p })
 step_over e next (elements.purge s) = purged e.last s e.at (e.at + length e.bytes)
 step_over e next elements.wrong = Step.Wrong e.at
 
@@ -50,7 +45,7 @@ abbrev pub last_of_line : List ℕ → ℕ → Bool
 last_of_line text after = ends_line (end_at (drop after text)) || leb (length text) after
 
 unfoldable pub step_at : List ℕ → Cursor → Step
-step_at text c = step_from (length text) (paper_last c.last) (elements_from c.at (drop c.at text))
+step_at text c = step_from (length text) c.last (elements_from c.at (drop c.at text))
 
 -- ---- the element that starts at a place
 abbrev pub first_bytes : List Element → List ℕ
@@ -61,17 +56,17 @@ unfoldable pub element_at : List ℕ → ℕ → List ℕ
 element_at text at = first_bytes (elements_from at (drop at text))
 
 -- what an element covers that says this and runs up to `after`
-abbrev pub covered_for : ℕ → elements.Said → Covered
-covered_for after (elements.covers p n m) = Covered.Numbers p n m after
-covered_for after (elements.purge s) = Covered.Nothing
-covered_for after elements.wrong = Covered.Nothing
+abbrev pub covered_for : ℕ → elements.Said → Option Covered
+covered_for after (elements.covers p n m) = Some (record { prefix = p; first = n; last = m; after = after })
+covered_for after (elements.purge s) = None
+covered_for after elements.wrong = None
 
-unfoldable pub covered_at : List ℕ → ℕ → elements.Said → Covered
+unfoldable pub covered_at : List ℕ → ℕ → elements.Said → Option Covered
 covered_at text at x = covered_for (at + length (element_at text at)) x
 
 -- what was told of the element at a place under the prefix p: if it covers numbers, then these
-pub record Usual (text : List ℕ) (at p : ℕ) (r : Covered) : Type 0 where
-  pub is : (q n m after : ℕ) → r ≡ Covered.Numbers q n m after → r ≡ covered_at text at (said (Some p) (element_at text at))
+pub record Usual (text : List ℕ) (at p : ℕ) (r : Option Covered) : Type 0 where
+  pub is : (c : Covered) → r ≡ Some c → r ≡ covered_at text at (said (Some p) (element_at text at))
 
 -- what an element says that covers nothing: it is the purge, or wrong
 unfoldable pub said_of_purge : List ℕ → elements.Said

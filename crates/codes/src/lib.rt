@@ -6,29 +6,24 @@ ghost use Rattle.lines.specs.Bytes.{word, begins};
 ghost use Rattle.lines.specs.Lines.{prefix_form, three_digits};
 ghost use Rattle.codes.specs.Places.{prefix_of, two_of, three_of};
 ghost use Rattle.codes.specs.Elements.{single_form, range_form, purge_form, numbers, said};
-ghost use Rattle.codes.specs.Cursor.{paper_last, element_at, covered_at, Usual, purge_at, past_end, last_of_line, step_at};
+ghost use Rattle.codes.specs.Cursor.{element_at, covered_at, Usual, purge_at, past_end, last_of_line, step_at};
 
 use calendar::Stamp;
 
-// The last prefix of this block.
-#[derive(Clone, Copy)]
-pub enum Last {
-    Prefix(usize),
-    Nothing,
-}
-
 // What an element covers: under a prefix, the numbers from one to another, with the place behind the element. The purge and a wrong one cover nothing.
 #[derive(Clone, Copy)]
-enum Covered {
-    Numbers(usize, usize, usize, usize),
-    Nothing,
+struct Covered {
+    prefix: usize,
+    first: usize,
+    last: usize,
+    after: usize,
 }
 
 // The reading place: it stands at an element's first byte.
 #[derive(Clone, Copy)]
 pub struct Cursor {
     pub at: usize,
-    pub last: Last,
+    pub last: Option<usize>,
 }
 
 // What the element at the reading place says, under a prefix the numbers from one to another, and the place moved past it. The numbers are as wide as places: two of 32
@@ -176,17 +171,22 @@ fn is_full(text: &[u8], i: usize) -> bool
 }
 
 // `nnn-`, which stands at i, under the prefix p.
-fn single(text: &[u8], i: usize, p: usize) -> Covered
+fn single(text: &[u8], i: usize, p: usize) -> Option<Covered>
     requires within { i ≤ length text.now }
     requires stands { begins single_form (drop i text.now) ≡ true }
     ensures { result ≡ covered_at text.now i (numbers p (element_at text.now i)) }
 {
     let n = three(text, i);
-    Covered::Numbers(p, n, n, i + 4)
+    Some(Covered {
+        prefix: p,
+        first: n,
+        last: n,
+        after: i + 4,
+    })
 }
 
 // `nnn>mmm-`, which stands at i, under the prefix p.
-fn range(text: &[u8], i: usize, p: usize) -> Covered
+fn range(text: &[u8], i: usize, p: usize) -> Option<Covered>
     requires within { i ≤ length text.now }
     requires stands { begins range_form (drop i text.now) ≡ true }
     ensures { result ≡ covered_at text.now i (numbers p (element_at text.now i)) }
@@ -194,13 +194,18 @@ fn range(text: &[u8], i: usize, p: usize) -> Covered
     let first = three(text, i);
     let last = three(text, i + 4);
     if (1 <= first) & (first < last) {
-        return Covered::Numbers(p, first, last, i + 8);
+        return Some(Covered {
+            prefix: p,
+            first,
+            last,
+            after: i + 8,
+        });
     }
-    Covered::Nothing
+    None
 }
 
 // `nnn`, `ALL` or `nnn>mmm`, each with its `-`, from i on, under the prefix p.
-fn numbers(text: &[u8], i: usize, p: usize) -> Covered
+fn numbers(text: &[u8], i: usize, p: usize) -> Option<Covered>
     requires { i ≤ length text.now }
     ensures { result ≡ covered_at text.now i (numbers p (element_at text.now i)) }
 {
@@ -208,34 +213,37 @@ fn numbers(text: &[u8], i: usize, p: usize) -> Covered
         return single(text, i, p);
     }
     if is_all(text, i) {
-        return Covered::Numbers(p, 0, 0, i + 4);
+        return Some(Covered {
+            prefix: p,
+            first: 0,
+            last: 0,
+            after: i + 4,
+        });
     }
     if is_range(text, i) {
         return range(text, i, p);
     }
-    Covered::Nothing
+    None
 }
 
 // What the element at `at` covers under the last prefix.
-fn read_any(text: &[u8], at: usize, last: Last) -> Covered
+fn read_any(text: &[u8], at: usize, last: Option<usize>) -> Option<Covered>
     requires { at ≤ length text.now }
-    ensures { result ≡ covered_at text.now at (said (paper_last last) (element_at text.now at)) }
+    ensures { result ≡ covered_at text.now at (said last (element_at text.now at)) }
 {
     // A full element's own prefix stands in front of its numbers; those of a short one stand under the last. One call reads both.
     let mut under = last;
     let mut i = at;
     if is_full(text, at) {
-        under = Last::Prefix(prefix(text, at));
+        under = Some(prefix(text, at));
         i = at + 3;
     }
-    let Last::Prefix(p) = under else {
-        return Covered::Nothing;
-    };
+    let p = under?;
     numbers(text, i, p)
 }
 
 // What the element at `at` covers, if it is one of the most usual: `nnn-` or `nnn>mmm-` under the last prefix p. Of any other nothing is said.
-fn read_usual(text: &[u8], at: usize, p: usize) -> Covered
+fn read_usual(text: &[u8], at: usize, p: usize) -> Option<Covered>
     requires { at ≤ length text.now }
     ensures { Usual text.now at p result }
 {
@@ -245,7 +253,7 @@ fn read_usual(text: &[u8], at: usize, p: usize) -> Covered
     if is_range(text, at) {
         return range(text, at, p);
     }
-    Covered::Nothing
+    None
 }
 
 // The place of the element behind one that runs up to `after`: past the line's end, if one stands there.
@@ -313,15 +321,15 @@ impl Cursor {
         if n <= at {
             return Step::Wrong(n);
         }
-        let covered = read_any(text, at, last);
-        let Covered::Numbers(p, first, last, after) = covered else {
+        let Some(covered) = read_any(text, at, last) else {
             return read_purge(text, at);
         };
+        let prefix = covered.prefix;
         let next = Cursor {
-            at: past_end(text, after),
-            last: Last::Prefix(p),
+            at: past_end(text, covered.after),
+            last: Some(prefix),
         };
-        Step::Covers(p, first, last, next)
+        Step::Covers(prefix, covered.first, covered.last, next)
     }
 
     // The same step, fast for the most usual elements. It is small and for one caller: there it is part of the loop.
@@ -330,20 +338,20 @@ impl Cursor {
     {
         let at = self.at;
         let last = self.last;
-        let Last::Prefix(p) = last else {
+        let Some(p) = last else {
             return self.step(text);
         };
         if text.len() <= at {
             return self.step(text);
         }
-        let usual = read_usual(text, at, p);
-        let Covered::Numbers(q, first, last, after) = usual else {
+        let Some(usual) = read_usual(text, at, p) else {
             return self.step(text);
         };
+        let prefix = usual.prefix;
         let next = Cursor {
-            at: past_end(text, after),
-            last: Last::Prefix(q),
+            at: past_end(text, usual.after),
+            last: Some(prefix),
         };
-        Step::Covers(q, first, last, next)
+        Step::Covers(prefix, usual.first, usual.last, next)
     }
 }

@@ -8,16 +8,9 @@ ghost use Rattle.blocks.specs.Block.{book_length};
 ghost use Rattle.steps.specs.Book.{at, draft_at};
 ghost use Rattle.layout.specs.Layout.{book_of};
 ghost use Rattle.copies.specs.Admission.{is_open, exists, admission};
-ghost use Rattle.copies.specs.Copies.{paper_copy, copy_block, Admitted};
+ghost use Rattle.copies.specs.Copies.{copy_block, Admitted};
 
 use refusal::{Refusal, Verdict};
-
-// Where a draft's copy of a segment stands: the block's number.
-#[derive(Clone, Copy)]
-pub enum Found {
-    Copy(usize),
-    NotTaken,
-}
 
 fn wrong(number: usize) -> Verdict
     ensures { result ≡ Verdict.Refused (record { number = number; place = 0 }) }
@@ -78,17 +71,17 @@ pub fn admit(book: &[u8], d: usize, in_range: bool, s: usize) -> Verdict
 }
 
 // The block of a draft's copy of a segment.
-pub fn find_copy(book: &[u8], d: usize, s: usize) -> Found
+pub fn find_copy(book: &[u8], d: usize, s: usize) -> Option<usize>
     requires { Admitted book.now d s }
-    ensures { paper_copy result ≡ copy_block book.now d s }
+    ensures { result ≡ copy_block book.now d s }
 {
     let first = blocks::size(book[4 * d + 5]);
     if first == s {
-        return Found::Copy(2 * d + 7);
+        return Some(2 * d + 7);
     }
     let second = blocks::size(book[4 * d + 6]);
     if second == s {
-        return Found::Copy(2 * d + 8);
+        return Some(2 * d + 8);
     }
-    Found::NotTaken
+    None
 }

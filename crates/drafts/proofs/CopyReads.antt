@@ -1,4 +1,5 @@
 -- The ways out of a read of a draft's copy. Assumes nothing.
+use Rattle.std.specs.Prelude.{Option, None}
 use Prim.Native.Nat.{ℕ, ◌≤◌, ◌<◌}
 use native.Mathlib.Omega.{arith}
 use mathlib.Core.Path.{◌≡◌, refl, sym, ap, ◌∙◌}
@@ -23,9 +24,7 @@ use Rattle.layout.specs.Rule.{on_bytes, paper_reply}
 use Rattle.layout.specs.declared.Reply.{Reply}
 use Rattle.layout.specs.declared.Reply.TheVariants as reply
 use Rattle.copies.specs.Admission.{admission}
-use Rattle.copies.specs.Copies.{copy_block, paper_copy}
-use Rattle.copies.specs.declared.Found.{Found}
-use Rattle.copies.specs.declared.Found.TheVariants as found
+use Rattle.copies.specs.Copies.{copy_block}
 use Rattle.copies.proofs.Admits.{Works}
 use Rattle.copies.proofs.Ways.{refused_does, absent_does, answer_at, count_is}
 
@@ -34,8 +33,8 @@ module _ (l : List ℕ) (y : Bytes l) (d s : ℕ) (v : Verdict) (e : Edit) where
   pub refused_read : (r : Refusal) → v ≡ Refused r → paper_verdict v ≡ admission l d (in_range (editing e)) s → paper_reply (reply.Refused r) ≡ (on_bytes l (on d s (editing e))).0
   refused_read r is says = (refused_does l y d s v (editing e) r is says).answer
 
-  pub absent_read : (t : Bool) → v ≡ Accepted → paper_verdict v ≡ admission l d t s → (f : Found) → paper_copy f ≡ copy_block l d s → in_range (editing e) ≡ true
-      → f ≡ found.NotTaken → (a : Reply) → a ≡ reply.Refused (refusal_for not_taken 0) → paper_reply a ≡ (on_bytes l (on d s (editing e))).0
+  pub absent_read : (t : Bool) → v ≡ Accepted → paper_verdict v ≡ admission l d t s → (f : Option ℕ) → f ≡ copy_block l d s → in_range (editing e) ≡ true
+      → f ≡ None → (a : Reply) → a ≡ reply.Refused (refusal_for not_taken 0) → paper_reply a ≡ (on_bytes l (on d s (editing e))).0
   absent_read t is says f is_at r none a answers = (absent_does l y d s v t is says f is_at e r none a answers).answer
 
 -- ---- by the content that was loaded

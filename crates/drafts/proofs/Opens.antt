@@ -5,7 +5,7 @@ use mathlib.Core.Path.{◌≡◌, refl, sym, ap, subst, ◌∙◌}
 use mathlib.Core.Logic.{◌≢◌}
 use mathlib.Core.List.{List, [], ◌∷◌}
 use mathlib.Core.Bool.{Bool, true, false, not}
-use Rattle.std.specs.Prelude.{None, Some}
+use Rattle.std.specs.Prelude.{Option, None, Some}
 use lib.ListN.{length, get_or}
 use Rattle.std.specs.Prelude.{slice_get}
 use borrow.Author.Tests.{ne_eqb, not-true, not-false}
@@ -26,9 +26,6 @@ use Rattle.layout.specs.declared.Reply.TheVariants as reply
 use Rattle.layout.proofs.Back.{sound_lies}
 use Rattle.layout.proofs.Rules.{does_step, does_refused, does_short, does_unsound}
 use Rattle.layout.proofs.Said.{drafts_length, draft_shut}
-use Rattle.drafts.specs.Opening.{paper_lowest}
-use Rattle.drafts.specs.declared.Lowest.{Lowest}
-use Rattle.drafts.specs.declared.Lowest.TheVariants as code
 
 -- ---- a call on bytes of a wrong length, and on bytes that are no sound book
 pub ends_short : (l : List ℕ) (c : Call) (r : Reply) → (length l ≡ book_length → ⊥) → r ≡ reply.Refused (refusal_for wrong_length 0) → Does l l c r
@@ -54,31 +51,31 @@ module _ (l : List ℕ) (n k : ℕ) (ds : List Draft) where
   lowest_later h = rw (ne_eqb (get_or l (8 + 4 * k) 0) 0 h)
 
 module _ (l : List ℕ) (first : ℕ) (is-first : first ≡ get_or l 8 0) where
-  pub lowest_1 : first ≡ 0 → paper_lowest (code.Draft 1) ≡ lowest 1 (book_of l).drafts
+  pub lowest_1 : first ≡ 0 → (Some 1) ≡ lowest 1 (book_of l).drafts
   lowest_1 e = sym (ap (lowest 1) (four_drafts l) ∙ lowest_here l 1 0 _ (sym is-first ∙ e))
 
   module _ (no-first : first ≡ 0 → ⊥) (second : ℕ) (is-second : second ≡ get_or l 12 0) where
     from_2 : lowest 1 (book_of l).drafts ≡ lowest 2 (draft_of l 1 ∷ draft_of l 2 ∷ draft_of l 3 ∷ [])
     from_2 = ap (lowest 1) (four_drafts l) ∙ lowest_later l 1 0 _ (λ z. no-first (is-first ∙ z))
 
-    pub lowest_2 : second ≡ 0 → paper_lowest (code.Draft 2) ≡ lowest 1 (book_of l).drafts
+    pub lowest_2 : second ≡ 0 → (Some 2) ≡ lowest 1 (book_of l).drafts
     lowest_2 e = sym (from_2 ∙ lowest_here l 2 1 _ (sym is-second ∙ e))
 
     module _ (no_second : second ≡ 0 → ⊥) (third : ℕ) (is-third : third ≡ get_or l 16 0) where
       from_3 : lowest 1 (book_of l).drafts ≡ lowest 3 (draft_of l 2 ∷ draft_of l 3 ∷ [])
       from_3 = from_2 ∙ lowest_later l 2 1 _ (λ z. no_second (is-second ∙ z))
 
-      pub lowest_3 : third ≡ 0 → paper_lowest (code.Draft 3) ≡ lowest 1 (book_of l).drafts
+      pub lowest_3 : third ≡ 0 → (Some 3) ≡ lowest 1 (book_of l).drafts
       lowest_3 e = sym (from_3 ∙ lowest_here l 3 2 _ (sym is-third ∙ e))
 
       module _ (no_third : third ≡ 0 → ⊥) (fourth : ℕ) (is-fourth : fourth ≡ get_or l 20 0) where
         from_4 : lowest 1 (book_of l).drafts ≡ lowest 4 (draft_of l 3 ∷ [])
         from_4 = from_3 ∙ lowest_later l 3 2 _ (λ z. no_third (is-third ∙ z))
 
-        pub lowest_4 : fourth ≡ 0 → paper_lowest (code.Draft 4) ≡ lowest 1 (book_of l).drafts
+        pub lowest_4 : fourth ≡ 0 → (Some 4) ≡ lowest 1 (book_of l).drafts
         lowest_4 e = sym (from_4 ∙ lowest_here l 4 3 _ (sym is-fourth ∙ e))
 
-        pub lowest_none : (fourth ≡ 0 → ⊥) → paper_lowest code.Nothing ≡ lowest 1 (book_of l).drafts
+        pub lowest_none : (fourth ≡ 0 → ⊥) → None ≡ lowest 1 (book_of l).drafts
         unfolding lowest
         lowest_none h = sym (from_4 ∙ lowest_later l 4 3 [] (λ z. h (is-fourth ∙ z)))
 
@@ -99,20 +96,20 @@ closed_at n (working ks stale ∷ ds) d e =
 
 -- ---- the ways out
 module _ (l : List ℕ) (long : length l ≡ book_length) (sound : Bool) (is-sound : sound ≡ is_sound l) (good : not sound ≡ false)
-    (w : Lowest) (is-lowest : paper_lowest w ≡ lowest 1 (book_of l).drafts) where
+    (w : Option ℕ) (is-lowest : w ≡ lowest 1 (book_of l).drafts) where
   t : is_sound l ≡ true
   t = sym is-sound ∙ not-false sound good
 
   -- 14
-  pub open_none : (y : Bytes l) (r : Reply) → w ≡ code.Nothing → r ≡ reply.Refused (refusal_for all_open 0) → Does l l opening r
+  pub open_none : (y : Bytes l) (r : Reply) → w ≡ None → r ≡ reply.Refused (refusal_for all_open 0) → Does l l opening r
   open_none y r e q =
-      let none-closed : lowest 1 (book_of l).drafts ≡ None = sym is-lowest ∙ ap paper_lowest e in
+      let none-closed : lowest 1 (book_of l).drafts ≡ None = sym is-lowest ∙ e in
       does_refused l opening r long t 14 0 (order.open_none (book_of l) none-closed) (ap paper_reply q)
 
   -- a draft is closed
-  module _ (d : ℕ) (is : w ≡ code.Draft d) where
+  module _ (d : ℕ) (is : w ≡ Some d) where
     closed_one : Closed 1 (book_of l).drafts d
-    closed_one = closed_at 1 (book_of l).drafts d (sym is-lowest ∙ ap paper_lowest is)
+    closed_one = closed_at 1 (book_of l).drafts d (sym is-lowest ∙ is)
 
     pub open_from : 1 ≤ d
     open_from = omega (arith, closed_one.is)
@@ -129,7 +126,7 @@ module _ (l : List ℕ) (long : length l ≡ book_length) (sound : Bool) (is-sou
         → ((b : Book) → Lies l b → draft_at b.drafts d ≡ closed → Lies m (with_drafts b (put b.drafts d (working [] false))))
         → (z : List ℕ) → ((b : Book) → Lies m b → z ≡ bytes_of b) → Does l z opening (reply.Draft d)
     open_does y m opened z sealed =
-        let one-closed : lowest 1 (book_of l).drafts ≡ Some d = sym is-lowest ∙ ap paper_lowest is in
+        let one-closed : lowest 1 (book_of l).drafts ≡ Some d = sym is-lowest ∙ is in
         let after : Book = with_drafts (book_of l) (put (book_of l).drafts d (working [] false)) in
         does_step l z opening (reply.Draft d) long t (draft d) after (order.open_lowest (book_of l) d one-closed) refl
         (sealed after (opened (book_of l) (sound_lies l y t) open_shut))

@@ -29,9 +29,7 @@ use Rattle.layout.proofs.Rules.{does_step, does_refused}
 use Rattle.layout.proofs.Said.{draft_of_lem, segment_past, copies_none, copies_one, copies_two}
 use Rattle.layout.proofs.Shown.{draft_copies}
 use Rattle.copies.specs.Admission.{exists, admission}
-use Rattle.copies.specs.Copies.{index_of, block_in, copy_block, paper_copy, Admitted}
-use Rattle.copies.specs.declared.Found.{Found}
-use Rattle.copies.specs.declared.Found.TheVariants as found
+use Rattle.copies.specs.Copies.{index_of, block_in, copy_block, Admitted}
 use Rattle.copies.proofs.Copies.{index_some, index_none}
 use Rattle.copies.proofs.Finds.{open_zero, there_zero}
 use Rattle.copies.proofs.Works.{Base, base_of}
@@ -132,7 +130,7 @@ block_none d None e = refl
 block_none d (Some n) e = apart cc
 
 module _ (l : List ℕ) (y : Bytes l) (d s : ℕ) (v : Verdict) (is : v ≡ Accepted) (says : paper_verdict v ≡ admission l d true s)
-    (f : Found) (is_at : paper_copy f ≡ copy_block l d s) where
+    (f : Option ℕ) (is_at : f ≡ copy_block l d s) where
   a : Admitted l d s
   a = take_admitted l d s v is says
 
@@ -145,20 +143,20 @@ module _ (l : List ℕ) (y : Bytes l) (d s : ℕ) (v : Verdict) (is : v ≡ Acce
   c : (c : Content) × (at (book_of l).segments s ≡ Some c)
   c = some_of (at (book_of l).segments s) a.there
 
-  sought : paper_copy f ≡ block_in d (index_of s o.ks)
+  sought : f ≡ block_in d (index_of s o.ks)
   unfolding copy_block
   sought = is_at ∙ ap (λ (x : Draft). block_in d (index_of s (copies_of x))) o.there
 
   -- 17
-  pub take_again : (k : ℕ) (r : Reply) → f ≡ found.Copy k → r ≡ reply.Refused (refusal_for taken_already 0) → Does l l (on d s taking) r
+  pub take_again : (k : ℕ) (r : Reply) → f ≡ Some k → r ≡ reply.Refused (refusal_for taken_already 0) → Does l l (on d s taking) r
   take_again k r q e =
-      let b = block_some d k (index_of s o.ks) (sym sought ∙ ap paper_copy q) in
+      let b = block_some d k (index_of s o.ks) (sym sought ∙ q) in
       let i = index_some s o.ks b.0 b.1 in
       subst (Does l l (on d s taking)) (sym e) (copy_there l base a.long d s o c.0 c.1 i.named)
 
-  module _ (q : f ≡ found.NotTaken) (n : ℕ) (is-n : n ≡ length (copies_of (draft_at (book_of l).drafts d))) where
+  module _ (q : f ≡ None) (n : ℕ) (is-n : n ≡ length (copies_of (draft_at (book_of l).drafts d))) where
     absent : has s o.ks ≡ false
-    absent = copy_none s o.ks (index_none s o.ks (block_none d (index_of s o.ks) (sym sought ∙ ap paper_copy q)))
+    absent = copy_none s o.ks (index_none s o.ks (block_none d (index_of s o.ks) (sym sought ∙ q)))
 
     count : n ≡ length o.ks
     count = is-n ∙ ap (λ (x : Draft). length (copies_of x)) o.there

@@ -9,42 +9,33 @@ ghost use Rattle.steps.specs.Calls.{on, editing, read_purge, read_count, read_pl
 ghost use Rattle.layout.specs.Layout.{book_of, copies_of};
 ghost use Rattle.layout.specs.Rule.{on_bytes, paper_reply, Does};
 ghost use Rattle.layout.specs.Tests.{is_sound};
-ghost use Rattle.drafts.specs.Opening.{paper_lowest};
 ghost use Rattle.steps.specs.Calls as calls;
 
-use copies::Found;
 use layout::Reply;
 use refusal::Verdict;
 
-// A closed draft's number, or that all four are open.
-#[derive(Clone, Copy)]
-enum Lowest {
-    Draft(usize),
-    Nothing,
-}
-
 // The lowest closed draft.
-fn lowest_closed(book: &[u8]) -> Lowest
+fn lowest_closed(book: &[u8]) -> Option<usize>
     requires { length book.now ≡ book_length }
-    ensures { paper_lowest result ≡ lowest 1 (book_of book.now).drafts }
+    ensures { result ≡ lowest 1 (book_of book.now).drafts }
 {
     let first = blocks::size(book[8]);
     if first == 0 {
-        return Lowest::Draft(1);
+        return Some(1);
     }
     let second = blocks::size(book[12]);
     if second == 0 {
-        return Lowest::Draft(2);
+        return Some(2);
     }
     let third = blocks::size(book[16]);
     if third == 0 {
-        return Lowest::Draft(3);
+        return Some(3);
     }
     let fourth = blocks::size(book[20]);
     if fourth == 0 {
-        return Lowest::Draft(4);
+        return Some(4);
     }
-    Lowest::Nothing
+    None
 }
 
 // Opens the lowest closed draft, and answers its number.
@@ -58,7 +49,7 @@ pub fn open(book: &mut [u8]) -> Reply
     if !sound {
         return layout::refused(refusal::NOT_SOUND);
     }
-    let Lowest::Draft(d) = lowest_closed(book) else {
+    let Some(d) = lowest_closed(book) else {
         return layout::refused(refusal::ALL_OPEN);
     };
     moves::open_draft(book, d);
@@ -111,7 +102,7 @@ pub fn take(book: &mut [u8], d: usize, s: usize) -> Reply
     if let Verdict::Refused(r) = verdict {
         return Reply::Refused(r);
     }
-    let Found::NotTaken = copies::find_copy(book, d, s) else {
+    let None = copies::find_copy(book, d, s) else {
         return layout::refused(refusal::TAKEN_ALREADY);
     };
     let n = count_taken(book, d);
@@ -131,7 +122,7 @@ pub fn read_purge(book: &[u8], d: usize, s: usize) -> Reply
     if let Verdict::Refused(r) = verdict {
         return Reply::Refused(r);
     }
-    let Found::Copy(k) = copies::find_copy(book, d, s) else {
+    let Some(k) = copies::find_copy(book, d, s) else {
         return layout::refused(refusal::NOT_TAKEN);
     };
     let h = blocks::load(book, k);
@@ -146,7 +137,7 @@ pub fn read_count(book: &[u8], d: usize, s: usize) -> Reply
     if let Verdict::Refused(r) = verdict {
         return Reply::Refused(r);
     }
-    let Found::Copy(k) = copies::find_copy(book, d, s) else {
+    let Some(k) = copies::find_copy(book, d, s) else {
         return layout::refused(refusal::NOT_TAKEN);
     };
     let h = blocks::load(book, k);
@@ -161,7 +152,7 @@ pub fn read_place(book: &[u8], d: usize, s: usize, i: usize) -> Reply
     if let Verdict::Refused(r) = verdict {
         return Reply::Refused(r);
     }
-    let Found::Copy(k) = copies::find_copy(book, d, s) else {
+    let Some(k) = copies::find_copy(book, d, s) else {
         return layout::refused(refusal::NOT_TAKEN);
     };
     let h = blocks::load(book, k);

@@ -5,7 +5,7 @@ use native.Mathlib.Omega.{arith}
 use mathlib.Core.Path.{◌≡◌, sym, ap, subst, ◌∙◌}
 use mathlib.Core.List.{List}
 use mathlib.Core.Bool.{Bool, true, false, not}
-use Rattle.std.specs.Prelude.{Some}
+use Rattle.std.specs.Prelude.{Option, None, Some}
 use lib.ListN.{length, take, drop}
 use lib.Seq.{length-take-le}
 use lib.Dec.{eqb, ltb}
@@ -17,10 +17,7 @@ use Rattle.refusal.specs.declared.Verdict.{Verdict}
 use Rattle.refusal.specs.declared.Verdict.TheVariants.{Accepted, Refused}
 use Rattle.calendar.specs.Calendar.{is_time}
 use Rattle.calendar.specs.Purge.{purge_of}
-use Rattle.calendar.specs.Paper.{paper_moment}
 use Rattle.calendar.specs.declared.Stamp.{Stamp}
-use Rattle.calendar.specs.declared.Moment.{Moment}
-use Rattle.calendar.specs.declared.Moment.TheVariants as moment
 use Rattle.calendar.proofs.Laws.{purge_low}
 use Rattle.codes.specs.Block.{Content, insert}
 use Rattle.codes.specs.Places.{capacity, places_end, ascends}
@@ -36,9 +33,7 @@ use Rattle.layout.specs.Rule.{paper_reply, Does}
 use Rattle.layout.specs.declared.Reply.{Reply}
 use Rattle.layout.specs.declared.Reply.TheVariants as reply
 use Rattle.copies.specs.Admission.{admission}
-use Rattle.copies.specs.Copies.{copy_block, paper_copy}
-use Rattle.copies.specs.declared.Found.{Found}
-use Rattle.copies.specs.declared.Found.TheVariants as found
+use Rattle.copies.specs.Copies.{copy_block}
 use Rattle.copies.proofs.Admits.{Works}
 use Rattle.copies.proofs.Ways.{ranging, refused_does, absent_does, answer_at, count_is}
 
@@ -58,7 +53,7 @@ module _ (l : List ℕ) (y : Bytes l) (d s : ℕ) (v : Verdict) (t : Bool) (says
     pub in_range_lem : in_range (editing e) ≡ true
     in_range_lem = sym tests ∙ ranging l d s v t is says
 
-    pub tested_absent : (f : Found) → paper_copy f ≡ copy_block l d s → f ≡ found.NotTaken → (a : Reply) → a ≡ reply.Refused (refusal_for not_taken 0)
+    pub tested_absent : (f : Option ℕ) → f ≡ copy_block l d s → f ≡ None → (a : Reply) → a ≡ reply.Refused (refusal_for not_taken 0)
         → Does l l (on d s (editing e)) a
     tested_absent f is_at q a answers = absent_does l y d s v t is says f is_at e in_range_lem q a answers
 
@@ -97,25 +92,25 @@ module _ (l : List ℕ) (d s k : ℕ) (w : Works l d s k) (h : Held) (f : Fits h
   held_up = ap (λ (c : Content). ascends 0 c.places) is ∙ w.fine.up
 
   -- set purge
-  module _ (time : Stamp) (t : Bool) (range : t ≡ true) (is-range : t ≡ is_time time) (n : ℕ) (is-issue : n ≡ issue) (m : Moment) (gives : paper_moment m ≡ purge_of n time) where
+  module _ (time : Stamp) (t : Bool) (range : t ≡ true) (is-range : t ≡ is_time time) (n : ℕ) (is-issue : n ≡ issue) (m : Option ℕ) (gives : m ≡ purge_of n time) where
     in_time : in_range (editing (set_purge time)) ≡ true
     in_time = sym is-range ∙ range
 
-    given : purge_of issue time ≡ paper_moment m
+    given : purge_of issue time ≡ m
     given = sym (gives ∙ ap (λ (i : ℕ). purge_of i time) is-issue)
 
     -- 5
-    pub purge_none : m ≡ moment.Nothing → (a : Reply) → a ≡ reply.Refused (refusal_for wrong_time 0) → Does l l (on d s (editing (set_purge time))) a
+    pub purge_none : m ≡ None → (a : Reply) → a ≡ reply.Refused (refusal_for wrong_time 0) → Does l l (on d s (editing (set_purge time))) a
     purge_none nothing a e =
         kept_does (set_purge time) in_time a
-        (ap (settle held) (order.purge_none issue held time (given ∙ ap paper_moment nothing)) ∙ ap (λ (r : Reply). (paper_reply r, held)) (sym e))
+        (ap (settle held) (order.purge_none issue held time (given ∙ nothing)) ∙ ap (λ (r : Reply). (paper_reply r, held)) (sym e))
 
-    pub purge_some : (minute : ℕ) → m ≡ moment.At minute → (p : ℕ) → p ≡ minute
+    pub purge_some : (minute : ℕ) → m ≡ Some minute → (p : ℕ) → p ≡ minute
         → (n : List ℕ) → n ≡ put_block k (holding (Some (held_content (record { purge = p; places = h.places; count = h.count })))) l
         → Does l n (on d s (editing (set_purge time))) (reply.Number minute)
     purge_some minute at p e n q =
         stored_does (set_purge time) in_time (reply.Number minute) (record { purge = minute; places = take h.count h.places })
-        (ap (settle held) (purge_given issue held time minute (given ∙ ap paper_moment at))) (omega (arith, count_is h f, f.few)) n
+        (ap (settle held) (purge_given issue held time minute (given ∙ at))) (omega (arith, count_is h f, f.few)) n
         (q ∙ ap (λ (i : ℕ). put_block k (holding (Some (held_content (record { purge = i; places = h.places; count = h.count })))) l) e)
 
   -- add, remove: q is the place p
@@ -170,8 +165,8 @@ module _ (l : List ℕ) (d s k : ℕ) (w : Works l d s k) (h : Held) (f : Fits h
           (few_of g fg)
 
 -- a minute that a purge has
-pub minute_low : (issue : ℕ) (time : Stamp) (m : Moment) (minute : ℕ) → paper_moment m ≡ purge_of issue time → m ≡ moment.At minute → minute < 4294967296
-minute_low issue time m minute e q = let h = purge_low issue time minute (sym e ∙ ap paper_moment q) in omega arith
+pub minute_low : (issue : ℕ) (time : Stamp) (m : Option ℕ) (minute : ℕ) → m ≡ purge_of issue time → m ≡ Some minute → minute < 4294967296
+minute_low issue time m minute e q = let h = purge_low issue time minute (sym e ∙ q) in omega arith
 
 -- a part of an array, from its start on
 pub stored_part : (l m : List ℕ) (k purge count : ℕ) (places : List ℕ) → m ≡ put_block k (holding (Some (record { purge = purge; places = take (count - 0) (drop 0 places) }))) l

@@ -12,8 +12,7 @@ ghost use Rattle.steps.specs.Calls.{member, without, on, editing, add, remove, s
 ghost use Rattle.layout.specs.Rule.{Does};
 
 use blocks::Held;
-use calendar::{Moment, Stamp};
-use copies::Found;
+use calendar::Stamp;
 use layout::Reply;
 use refusal::Verdict;
 
@@ -120,12 +119,12 @@ pub fn set_purge(book: &mut [u8], d: usize, s: usize, time: Stamp) -> Reply
     if let Verdict::Refused(r) = verdict {
         return Reply::Refused(r);
     }
-    let Found::Copy(k) = copies::find_copy(book, d, s) else {
+    let Some(k) = copies::find_copy(book, d, s) else {
         return layout::refused(refusal::NOT_TAKEN);
     };
     let h = blocks::load(book, k);
     let issue = codes::wide(blocks::number_at(book, 0));
-    let Moment::At(minute) = calendar::purge_of(issue, time) else {
+    let Some(minute) = calendar::purge_of(issue, time) else {
         return layout::refused(refusal::WRONG_TIME);
     };
     let purge = narrow(minute);
@@ -149,7 +148,7 @@ pub fn add(book: &mut [u8], d: usize, s: usize, p: usize) -> Reply
     if let Verdict::Refused(r) = verdict {
         return Reply::Refused(r);
     }
-    let Found::Copy(k) = copies::find_copy(book, d, s) else {
+    let Some(k) = copies::find_copy(book, d, s) else {
         return layout::refused(refusal::NOT_TAKEN);
     };
     let h = blocks::load(book, k);
@@ -175,7 +174,7 @@ pub fn remove(book: &mut [u8], d: usize, s: usize, p: usize) -> Reply
     if let Verdict::Refused(r) = verdict {
         return Reply::Refused(r);
     }
-    let Found::Copy(k) = copies::find_copy(book, d, s) else {
+    let Some(k) = copies::find_copy(book, d, s) else {
         return layout::refused(refusal::NOT_TAKEN);
     };
     let h = blocks::load(book, k);

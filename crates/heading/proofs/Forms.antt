@@ -1,4 +1,5 @@
 -- Line 1 and line 2, by their bytes: one law for each way out of the code. Assumes nothing.
+use Rattle.std.specs.Prelude.{None, Some, option_map}
 use Prim.Native.Nat.{ℕ, suc, ◌+◌, ◌-◌, ◌≤◌, ◌<◌}
 use native.Mathlib.Omega.{arith}
 use Prim.Native.String.{String}
@@ -17,9 +18,7 @@ use Rattle.calendar.specs.Calendar.{is_time}
 use Rattle.codes.specs.Places.{two_of}
 use Rattle.codes.specs.Elements.{stamp_of}
 use Rattle.heading.specs.Heading.{times, heading_form, amendment, amended_form, is_heading, heading_of, capital_or_digit, identifier_form, is_identifier}
-use Rattle.heading.specs.Paper.{bbb_form, is_amended, paper_headed}
-use Rattle.heading.specs.declared.Bbb.TheVariants.{Nothing, Code}
-use Rattle.heading.specs.declared.Headed.TheVariants.{Right, Wrong}
+use Rattle.heading.specs.Paper.{bbb_form, is_amended, paper_heading}
 
 -- ---- bytes of one kind: the answer from byte j on is the answer from the start
 pub record Ran (s : List ℕ) (k n low high j : ℕ) : Type 0 where
@@ -124,7 +123,7 @@ module _ (s : List ℕ) (h : Bool) (d o m : ℕ) (t : Bool) (eh : h ≡ begins h
   whole : (a : Bool) → a ≡ is_amended (drop 18 s) → (u : Bool) → ((eqb (length s) 18 && h || eqb (length s) 22 && (h && a)) && t) ≡ u → is_heading s ≡ u
   whole a ea u e = form_is s ∙ rw (← stamp, ← et, ← ea, ← eh) e
 
-  pub heading_plain : (eqb (length s) 18 && h && t) ≡ true → paper_headed (Right (record { stamp = record { day = d; hour = o; minute = m }; bbb = Nothing })) ≡ heading_of s
+  pub heading_plain : (eqb (length s) 18 && h && t) ≡ true → option_map paper_heading (Some (record { stamp = record { day = d; hour = o; minute = m }; bbb = None })) ≡ heading_of s
   unfolding heading_of
   heading_plain e =
       let n : length s ≡ 18 = eqb-true (length s) 18 (and_left (eqb (length s) 18) h (and_left (eqb (length s) 18 && h) t e)) in
@@ -133,13 +132,13 @@ module _ (s : List ℕ) (h : Bool) (d o m : ℕ) (t : Bool) (eh : h ≡ begins h
 
   module _ (e : (eqb (length s) 18 && h && t) ≡ false) (a : Bool) (ea : a ≡ is_amended (drop 18 s)) where
     pub heading_amended : (x y z : ℕ) → x ≡ get_or s 19 0 → y ≡ get_or s 20 0 → z ≡ get_or s 21 0 → (eqb (length s) 22 && (h && a) && t) ≡ true
-        → paper_headed (Right (record { stamp = record { day = d; hour = o; minute = m }; bbb = Code x y z })) ≡ heading_of s
+        → option_map paper_heading (Some (record { stamp = record { day = d; hour = o; minute = m }; bbb = Some (record { 0 = x; 1 = y; 2 = z }) })) ≡ heading_of s
     unfolding heading_of
     heading_amended x y z ex ey ez f =
         let n : length s ≡ 22 = eqb-true (length s) 22 (and_left (eqb (length s) 22) (h && a) (and_left (eqb (length s) 22 && (h && a)) t f)) in
         rw (whole a ea true (second (eqb (length s) 18 && h) (eqb (length s) 22 && (h && a)) t f), ← stamp, rest_is s n, ex, ey, ez)
 
-    pub heading_wrong : (eqb (length s) 22 && (h && a) && t) ≡ false → paper_headed Wrong ≡ heading_of s
+    pub heading_wrong : (eqb (length s) 22 && (h && a) && t) ≡ false → option_map paper_heading None ≡ heading_of s
     unfolding heading_of
     heading_wrong f = rw (whole a ea false (neither (eqb (length s) 18 && h) (eqb (length s) 22 && (h && a)) t e f))
 

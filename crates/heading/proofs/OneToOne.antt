@@ -1,51 +1,50 @@
 -- The readings of document 01 are one to one: what the paper says of an answer is said of no other. Assumes nothing.
+use Rattle.std.specs.Prelude.{Option, None, Some, option_map}
 use Prim.Native.Nat.{ℕ}
 use mathlib.Core.Path.{◌≡◌, refl, sym, ap, ◌∙◌}
 use mathlib.Core.Bool.{cond}
 use mathlib.Core.List.{List}
-use Rattle.std.specs.Prelude.{Option}
 use lib.ListN.{get_or}
 use lib.Dec.{eqb}
 use Rattle.laws.proofs.Tests.{apart}
 use Rattle.heading.specs.Heading as heading
 use Rattle.heading.specs.Storm.{ClassName, cyclone, internal, training, disturbance, StormSaid}
-use Rattle.heading.specs.Paper.{paper_bbb, paper_heading, paper_headed, paper_basin, paper_class, paper_id, paper_storm, paper_named}
+use Rattle.heading.specs.Paper.{paper_bbb, paper_heading, paper_basin, paper_class, paper_id, paper_named}
 use Rattle.heading.specs.declared.Bbb.{Bbb}
-use Rattle.heading.specs.declared.Bbb.TheVariants.{Nothing, Code}
 use Rattle.heading.specs.declared.Heading.{Heading}
-use Rattle.heading.specs.declared.Headed.{Headed}
-use Rattle.heading.specs.declared.Headed.TheVariants as headed
 use Rattle.heading.specs.declared.Basin.{Basin}
 use Rattle.heading.specs.declared.Basin.TheVariants.{Al, Sl, Ep, Cp, Wp}
 use Rattle.heading.specs.declared.Class.{Class}
 use Rattle.heading.specs.declared.Class.TheVariants.{Cyclone, Internal, Training, Disturbance}
 use Rattle.heading.specs.declared.StormId.{StormId}
-use Rattle.heading.specs.declared.Storm.{Storm}
-use Rattle.heading.specs.declared.Storm.TheVariants.{None, Found}
 use Rattle.heading.specs.declared.Named.{Named}
 use Rattle.heading.specs.declared.Named.TheVariants as named
 
 -- ---- line 1
-pub bbb_one : (a b : Bbb) → paper_bbb a ≡ paper_bbb b → a ≡ b
-bbb_one Nothing Nothing e = refl
-bbb_one Nothing (Code x y z) e = apart cc
-bbb_one (Code x y z) Nothing e = apart cc
-bbb_one (Code x y z) (Code u v w) e = cc
+bbb_one : (a b : Option Bbb) → option_map paper_bbb a ≡ option_map paper_bbb b → a ≡ b
+bbb_one None None e = refl
+bbb_one None (Some y) e = apart cc
+bbb_one (Some x) None e = apart cc
+bbb_one (Some x) (Some y) e =
+    let first : x.0 ≡ y.0 = cc in
+    let second : x.1 ≡ y.1 = cc in
+    let third : x.2 ≡ y.2 = cc in
+    λ i. Some (record { 0 = first i; 1 = second i; 2 = third i })
 
 pub heading_one : (h k : Heading) → paper_heading h ≡ paper_heading k → h ≡ k
 heading_one h k p =
     let b : h.bbb ≡ k.bbb = bbb_one h.bbb k.bbb (λ i. (p i).bbb) in
     λ i. record { stamp = (p i).stamp; bbb = b i }
 
-two_headed : (a b : Headed) → paper_headed a ≡ paper_headed b → a ≡ b
-two_headed headed.Wrong headed.Wrong e = refl
-two_headed headed.Wrong (headed.Right h) e = apart cc
-two_headed (headed.Right h) headed.Wrong e = apart cc
-two_headed (headed.Right h) (headed.Right k) e =
+two_headed : (a b : Option Heading) → option_map paper_heading a ≡ option_map paper_heading b → a ≡ b
+two_headed None None e = refl
+two_headed None (Some h) e = apart cc
+two_headed (Some h) None e = apart cc
+two_headed (Some h) (Some k) e =
     let p : paper_heading h ≡ paper_heading k = cc in
-    ap headed.Right (heading_one h k p)
+    ap Some (heading_one h k p)
 
-pub headed_one : {x : Option heading.Heading} (r s : Headed) → paper_headed r ≡ x → paper_headed s ≡ x → r ≡ s
+pub headed_one : {x : Option heading.Heading} (r s : Option Heading) → option_map paper_heading r ≡ x → option_map paper_heading s ≡ x → r ≡ s
 headed_one r s p q = two_headed r s (p ∙ sym q)
 
 -- ---- the storm
@@ -73,25 +72,25 @@ id_one i j p =
     let c : i.class ≡ j.class = sym (class_by_lem i.class) ∙ ap class_by (λ k. (p k).class) ∙ class_by_lem j.class in
     λ k. record { basin = b k; class = c k; number = (p k).number; year = (p k).year }
 
-pub storm_one : (a b : Storm) → paper_storm a ≡ paper_storm b → a ≡ b
+pub storm_one : (a b : Option StormId) → option_map paper_id a ≡ option_map paper_id b → a ≡ b
 storm_one None None e = refl
-storm_one None (Found j) e = apart cc
-storm_one (Found i) None e = apart cc
-storm_one (Found i) (Found j) e =
+storm_one None (Some j) e = apart cc
+storm_one (Some i) None e = apart cc
+storm_one (Some i) (Some j) e =
     let p : paper_id i ≡ paper_id j = cc in
-    ap Found (id_one i j p)
+    ap Some (id_one i j p)
 
 two_named : (a b : Named) → paper_named a ≡ paper_named b → a ≡ b
 two_named (named.Right None) (named.Right None) e = refl
-two_named (named.Right None) (named.Right (Found j)) e = apart cc
+two_named (named.Right None) (named.Right (Some j)) e = apart cc
 two_named (named.Right None) named.Wrong e = apart cc
-two_named (named.Right (Found i)) (named.Right None) e = apart cc
-two_named (named.Right (Found i)) (named.Right (Found j)) e =
+two_named (named.Right (Some i)) (named.Right None) e = apart cc
+two_named (named.Right (Some i)) (named.Right (Some j)) e =
     let p : paper_id i ≡ paper_id j = cc in
-    ap (λ (id : StormId). named.Right (Found id)) (id_one i j p)
-two_named (named.Right (Found i)) named.Wrong e = apart cc
+    ap (λ (id : StormId). named.Right (Some id)) (id_one i j p)
+two_named (named.Right (Some i)) named.Wrong e = apart cc
 two_named named.Wrong (named.Right None) e = apart cc
-two_named named.Wrong (named.Right (Found j)) e = apart cc
+two_named named.Wrong (named.Right (Some j)) e = apart cc
 two_named named.Wrong named.Wrong e = refl
 
 pub named_one : {x : StormSaid} (r s : Named) → paper_named r ≡ x → paper_named s ≡ x → r ≡ s

@@ -1,31 +1,22 @@
 // Line 1, line 2 and the office line of a bulletin: document 01, "Text and lines".
 #![tactic(auto)]
 
-ghost use Rattle.std.specs.Prelude.{◌≡◌, ◌-◌, ◌≤◌, ◌<◌, length, get_or, drop};
+ghost use Rattle.std.specs.Prelude.{◌≡◌, option_map, ◌-◌, ◌≤◌, ◌<◌, length, get_or, drop};
 ghost use Rattle.lines.specs.Bytes.{between, begins};
 ghost use Rattle.heading.specs.Heading.{times, heading_form, heading_of, capital_or_digit, is_identifier};
 ghost use Rattle.heading.specs.Storm.{is_office, names_storm, basin_of, class_of, storm_spelled, storm_of};
-ghost use Rattle.heading.specs.Paper.{is_amended, paper_headed, paper_basin_found, paper_class_found, paper_named};
+ghost use Rattle.heading.specs.Paper.{is_amended, paper_heading, paper_basin, paper_class, paper_named};
 
 use calendar::Stamp;
 
-// BBB.
+// BBB's three letters.
 #[derive(Clone, Copy)]
-pub enum Bbb {
-    Nothing,
-    Code(u8, u8, u8),
-}
+pub struct Bbb(pub u8, pub u8, pub u8);
 
 #[derive(Clone, Copy)]
 pub struct Heading {
     pub stamp: Stamp,
-    pub bbb: Bbb,
-}
-
-#[derive(Clone, Copy)]
-pub enum Headed {
-    Right(Heading),
-    Wrong,
+    pub bbb: Option<Bbb>,
 }
 
 #[derive(Clone, Copy)]
@@ -54,27 +45,9 @@ pub struct StormId {
 }
 
 #[derive(Clone, Copy)]
-pub enum Storm {
-    None,
-    Found(StormId),
-}
-
-#[derive(Clone, Copy)]
 pub enum Named {
-    Right(Storm),
+    Right(Option<StormId>),
     Wrong,
-}
-
-#[derive(Clone, Copy)]
-enum BasinFound {
-    In(Basin),
-    Nothing,
-}
-
-#[derive(Clone, Copy)]
-enum ClassFound {
-    Of(Class),
-    Nothing,
 }
 
 fn between(low: u8, high: u8, b: u8) -> bool
@@ -126,8 +99,8 @@ fn is_amended(line: &[u8]) -> bool
 }
 
 // Line 1, without its end.
-pub fn read_heading(line: &[u8]) -> Headed
-    ensures { paper_headed result ≡ heading_of line.now }
+pub fn read_heading(line: &[u8]) -> Option<Heading>
+    ensures { option_map paper_heading result ≡ heading_of line.now }
 {
     let n = line.len();
     let headed = is_headed(line);
@@ -138,9 +111,9 @@ pub fn read_heading(line: &[u8]) -> Headed
     };
     let time = calendar::is_time(stamp);
     if (n == 18) & headed & time {
-        return Headed::Right(Heading {
+        return Some(Heading {
             stamp,
-            bbb: Bbb::Nothing,
+            bbb: None,
         });
     }
     let amended = is_amended(line);
@@ -148,12 +121,12 @@ pub fn read_heading(line: &[u8]) -> Headed
     let b = lines::byte(line, 20);
     let c = lines::byte(line, 21);
     if (n == 22) & (headed & amended) & time {
-        return Headed::Right(Heading {
+        return Some(Heading {
             stamp,
-            bbb: Bbb::Code(a, b, c),
+            bbb: Some(Bbb(a, b, c)),
         });
     }
-    Headed::Wrong
+    None
 }
 
 // Whether byte k is a capital or a digit.
@@ -213,43 +186,43 @@ fn names_storm(line: &[u8]) -> bool
     (n == 9) & ((space == 32) & capitals & digits)
 }
 
-fn basin_of(e: &[u8]) -> BasinFound
-    ensures { paper_basin_found result ≡ basin_of e.now }
+fn basin_of(e: &[u8]) -> Option<Basin>
+    ensures { option_map paper_basin result ≡ basin_of e.now }
 {
     if lines::begins_with(e, b"AL") {
-        return BasinFound::In(Basin::Al);
+        return Some(Basin::Al);
     }
     if lines::begins_with(e, b"SL") {
-        return BasinFound::In(Basin::Sl);
+        return Some(Basin::Sl);
     }
     if lines::begins_with(e, b"EP") {
-        return BasinFound::In(Basin::Ep);
+        return Some(Basin::Ep);
     }
     if lines::begins_with(e, b"CP") {
-        return BasinFound::In(Basin::Cp);
+        return Some(Basin::Cp);
     }
     if lines::begins_with(e, b"WP") {
-        return BasinFound::In(Basin::Wp);
+        return Some(Basin::Wp);
     }
-    BasinFound::Nothing
+    None
 }
 
-fn class_of(n: usize) -> ClassFound
-    ensures { paper_class_found result ≡ class_of n }
+fn class_of(n: usize) -> Option<Class>
+    ensures { option_map paper_class result ≡ class_of n }
 {
     if (1 <= n) & (n <= 49) {
-        return ClassFound::Of(Class::Cyclone);
+        return Some(Class::Cyclone);
     }
     if (50 <= n) & (n <= 79) {
-        return ClassFound::Of(Class::Internal);
+        return Some(Class::Internal);
     }
     if (80 <= n) & (n <= 89) {
-        return ClassFound::Of(Class::Training);
+        return Some(Class::Training);
     }
     if (90 <= n) & (n <= 99) {
-        return ClassFound::Of(Class::Disturbance);
+        return Some(Class::Disturbance);
     }
-    ClassFound::Nothing
+    None
 }
 
 // The storm that eight bytes name.
@@ -259,13 +232,13 @@ fn storm_in(e: &[u8]) -> Named
     let number = codes::two(e, 2);
     let century = codes::two(e, 4);
     let rest = codes::two(e, 6);
-    let BasinFound::In(basin) = basin_of(e) else {
+    let Some(basin) = basin_of(e) else {
         return Named::Wrong;
     };
-    let ClassFound::Of(class) = class_of(number) else {
+    let Some(class) = class_of(number) else {
         return Named::Wrong;
     };
-    Named::Right(Storm::Found(StormId {
+    Named::Right(Some(StormId {
         basin,
         class,
         number,
@@ -280,5 +253,5 @@ pub fn read_storm(line: &[u8]) -> Named
     if names_storm(line) {
         return storm_in(last(line, 8));
     }
-    Named::Right(Storm::None)
+    Named::Right(None)
 }

@@ -11,7 +11,6 @@ ghost use Rattle.layout.specs.Sound.{is_issue};
 ghost use Rattle.layout.specs.Tests.{is_draft, is_step, is_draft_at, is_step_at, is_index, used, is_good, is_sound};
 
 use blocks::BookBytes;
-use calendar::Windowed;
 use checks::Block;
 use refusal::Refusal;
 
@@ -156,7 +155,7 @@ fn are_good(book: &BookBytes) -> bool
     ensures { result ≡ every (is_good book.now) (upward 1 48) }
 {
     let issue = blocks::number_at(book, 0);
-    let Windowed::Is(w) = calendar::window_of(issue as usize) else {
+    let Some(w) = calendar::window_of(issue as usize) else {
         return false;
     };
     (1..49).all(|k| is_good(book, k, w))

@@ -4,7 +4,7 @@ use native.Mathlib.Numerals.{add-one}
 use native.Mathlib.Omega.{arith}
 use mathlib.Core.Path.{◌≡◌, refl, sym, ap, ap₂, ◌∙◌}
 use mathlib.Core.List.{List, [], ◌∷◌}
-use Rattle.std.specs.Prelude.{None, Some}
+use Rattle.std.specs.Prelude.{Option, None, Some}
 use mathlib.Core.Bool.{Bool, true, false, cond, ◌&&◌, and-true, and_assoc}
 use lib.ListN.{length, get_or, take, drop, length-drop, drop_of_length-le, get_or-eq_default}
 use lib.Seq.{drop-cons, drop-drop}
@@ -13,11 +13,9 @@ use borrow.Author.Tests.{ne_eqb, eqb-true}
 use Rattle.laws.proofs.Tests.{by, by_order, apart}
 use Rattle.lines.specs.Bytes.{lf, word, begins, exactly}
 use Rattle.lines.specs.Lines.{pieces, line_end, end_bytes, end_named, body_of, ended_by, Line, lines_at, lines_from}
-use Rattle.lines.specs.Spans.{span_of, span_at, paper_lined, part, end_at}
+use Rattle.lines.specs.Spans.{span_of, span_at, part, end_at}
 use Rattle.lines.specs.Lines.{ends_line}
 use Rattle.lines.specs.declared.Span.{Span}
-use Rattle.lines.specs.declared.Lined.{Lined}
-use Rattle.lines.specs.declared.Lined.TheVariants as lined
 use Rattle.lines.specs.declared.End.{End}
 use Rattle.lines.specs.declared.End.TheVariants.{Lf, CrLf, CrCrLf, Nothing}
 use Rattle.lines.proofs.Strings.{begins_is}
@@ -277,23 +275,23 @@ unfolding span_at
 span_none s at h = ap span_of (lines_last s at h)
 
 -- ---- what was found: the line's places, or that the text has no byte there
-module _ (s : List ℕ) (at : ℕ) (r : Lined) (e : paper_lined r ≡ span_at s at) where
-  pub found_none : r ≡ lined.Nothing → length s ≤ at
-  found_none q = by_order at (length s) (λ h. let z : None ≡ Some (span_on s at) = sym (ap paper_lined q) ∙ e ∙ span_here s at h in apart cc) (λ h. h)
+module _ (s : List ℕ) (at : ℕ) (r : Option Span) (e : r ≡ span_at s at) where
+  pub found_none : r ≡ None → length s ≤ at
+  found_none q = by_order at (length s) (λ h. let z : None ≡ Some (span_on s at) = sym q ∙ e ∙ span_here s at h in apart cc) (λ h. h)
 
-  module _ (l : Span) (q : r ≡ lined.Line l) where
+  module _ (l : Span) (q : r ≡ Some l) where
     pub found_here : at < length s
-    found_here = by_order at (length s) (λ h. h) (λ h. let z : Some l ≡ None = sym (ap paper_lined q) ∙ e ∙ span_none s at h in apart cc)
+    found_here = by_order at (length s) (λ h. h) (λ h. let z : Some l ≡ None = sym q ∙ e ∙ span_none s at h in apart cc)
 
     found_span : l ≡ span_on s at
-    found_span = let z : Some l ≡ Some (span_on s at) = sym (ap paper_lined q) ∙ e ∙ span_here s at found_here in cc
+    found_span = let z : Some l ≡ Some (span_on s at) = sym q ∙ e ∙ span_here s at found_here in cc
 
     pub found_start : l.start ≡ at
     found_start = ap (λ (k : Span). k.start) found_span
 
     -- it is the line that is found from its own start on
     pub found_again : span_at s l.start ≡ Some l
-    found_again = ap (span_at s) found_start ∙ sym e ∙ ap paper_lined q
+    found_again = ap (span_at s) found_start ∙ sym e ∙ q
 
     pub found_end : l.end ≡ end_of s at
     found_end = ap (λ (k : Span). k.end) found_span
@@ -307,13 +305,13 @@ module _ (s : List ℕ) (at : ℕ) (r : Lined) (e : paper_lined r ≡ span_at s 
 -- a line's places, by its start
 module _ (s : List ℕ) (l : Span) (e : span_at s l.start ≡ Some l) where
   pub span_inside : l.start < length s
-  span_inside = found_here s l.start (lined.Line l) (sym e) l refl
+  span_inside = found_here s l.start (Some l) (sym e) l refl
 
   pub span_next : l.next ≡ next_of s l.start
-  span_next = found_next s l.start (lined.Line l) (sym e) l refl
+  span_next = found_next s l.start (Some l) (sym e) l refl
 
   pub span_ended : l.ended ≡ ending_of s l.start
-  span_ended = found_ended s l.start (lined.Line l) (sym e) l refl
+  span_ended = found_ended s l.start (Some l) (sym e) l refl
 
 -- ---- a search for a line's end: i stands in the line that starts at `at`
 pub record InLine (s : List ℕ) (at i : ℕ) : Type 0 where

@@ -3,4 +3,3 @@ pub mod Ends
 pub mod Scans
 pub mod Tests
 pub mod Checks
-pub mod OneToOne

@@ -1,4 +1,6 @@
 -- Printable bytes at the front of a text, and what holds behind them. Assumes nothing.
+use Rattle.lines.specs.declared.Span.{Span}
+use Rattle.std.specs.Prelude.{Option, None, Some}
 use Prim.Native.Nat.{ℕ, zero, suc, ◌+◌, ◌-◌, ◌^◌, min, ◌≤◌, ◌<◌, suc-le-suc}
 use native.Mathlib.Numerals.{add-one}
 use native.Mathlib.Omega.{arith}
@@ -14,11 +16,9 @@ use borrow.Author.Tests.{leb-true, ltb-true, lt-ltb}
 use Rattle.laws.proofs.Tests.{by, by_order, either_way, impossible, apart, and_left}
 use Rattle.lines.specs.Bytes.{between}
 use Rattle.lines.specs.Lines.{end_bytes}
-use Rattle.lines.specs.Spans.{span_at, paper_lined, end_at}
+use Rattle.lines.specs.Spans.{span_at, end_at}
 use Rattle.lines.specs.Lines.{ends_line}
 use Rattle.lines.specs.Printables.{printables, Passed, Ambled}
-use Rattle.lines.specs.declared.Lined.{Lined}
-use Rattle.lines.specs.declared.Lined.TheVariants as lined
 use Rattle.lines.specs.declared.End.{End}
 use Rattle.lines.specs.declared.End.TheVariants.{Nothing}
 use Rattle.lines.proofs.Ends.{no_end_lem, end_some, end_bytes_lem, next_here, next_within, span_none, InLine, in_start, in_on, in_here, in_last}
@@ -191,21 +191,21 @@ pub record Inside (s : List ℕ) (at i : ℕ) : Type 0 where
   pub within : i ≤ length s
   pub line : InLine s at i
 
-pub past_last : (s : List ℕ) (at : ℕ) → length s ≤ at → paper_lined lined.Nothing ≡ span_at s at
+pub past_last : (s : List ℕ) (at : ℕ) → length s ≤ at → None ≡ span_at s at
 past_last s at h = sym (span_none s at h)
 
 pub inside_start : (s : List ℕ) (at : ℕ) → at < length s → Inside s at at
 inside_start s at h = record { there = h; within = omega arith; line = in_start s at }
 
 module _ (s : List ℕ) (at i : ℕ) (v : Inside s at i) (e : ℕ) (is : e ≡ i + printables (drop i s)) where
-  pub inside_last : length s ≤ e → (r : Lined) → r ≡ lined.Line (record { start = at; end = e; next = e; ended = Nothing }) → paper_lined r ≡ span_at s at
-  inside_last h r q = ap paper_lined q ∙ in_last s at e (in_over s i e is at v.line) v.there h
+  pub inside_last : length s ≤ e → (r : Option Span) → r ≡ Some (record { start = at; end = e; next = e; ended = Nothing }) → r ≡ span_at s at
+  inside_last h r q = q ∙ in_last s at e (in_over s i e is at v.line) v.there h
 
   module _ (h : e < length s) (f : End) (ef : f ≡ end_at (drop e s)) (t : Bool) (et : t ≡ ends_line f) where
-    pub inside_here : t ≡ true → (k : ℕ) → k ≡ length (end_bytes f) → (r : Lined) → r ≡ lined.Line (record { start = at; end = e; next = e + k; ended = f })
-        → paper_lined r ≡ span_at s at
+    pub inside_here : t ≡ true → (k : ℕ) → k ≡ length (end_bytes f) → (r : Option Span) → r ≡ Some (record { start = at; end = e; next = e + k; ended = f })
+        → r ≡ span_at s at
     inside_here y k ek r q =
-        ap paper_lined q
+        q
         ∙ rw (ek, ef) (in_here s at e (in_over s i e is at v.line) (ended_here s e f ef t et y))
 
     -- a byte that is not printable and ends no line

@@ -4,8 +4,6 @@ use Rattle.std.specs.Prelude.{Option, None, Some}
 use Rattle.lines.specs.Bytes.{word, begins}
 use Rattle.lines.specs.Lines.{Line, lines_from}
 use Rattle.lines.specs.declared.Span.{Span}
-use Rattle.lines.specs.declared.Lined.{Lined}
-use Rattle.lines.specs.declared.Lined.TheVariants as lined
 use Rattle.lines.specs.declared.End.{End}
 use Rattle.lines.specs.declared.End.TheVariants.{Lf, CrLf, CrCrLf, Nothing}
 
@@ -17,10 +15,6 @@ span_of (l ∷ ls) = Some (record { start = l.start; end = l.start + length l.bo
 -- the line of the text that starts at `at`, if one starts there
 unfoldable pub span_at : List ℕ → ℕ → Option Span
 span_at text at = span_of (lines_from at (drop at text))
-
-abbrev pub paper_lined : Lined → Option Span
-paper_lined (lined.Line l) = Some l
-paper_lined lined.Nothing = None
 
 -- the bytes from one place up to another, as far as the text has them
 abbrev pub part : List ℕ → ℕ → ℕ → List ℕ

@@ -7,7 +7,7 @@ ghost use Rattle.refusal.specs.Answer.{refusal_for, paper_verdict};
 ghost use Rattle.lines.specs.Bytes.{between, capital, digit, literally, begins};
 ghost use Rattle.lines.specs.Lines.{end_bytes, blank, is_end, opens};
 ghost use Rattle.lines.specs.Check.{check_text};
-ghost use Rattle.lines.specs.Spans.{span_at, paper_lined, part, end_at};
+ghost use Rattle.lines.specs.Spans.{span_at, part, end_at};
 ghost use Rattle.lines.specs.Lines.{ends_line};
 ghost use Rattle.lines.specs.Printables.{printables, Passed, Ambled};
 
@@ -20,13 +20,6 @@ pub struct Span {
     pub end: usize,
     pub next: usize,
     pub ended: End,
-}
-
-// The line that was asked for, or none.
-#[derive(Clone, Copy)]
-pub enum Lined {
-    Line(Span),
-    Nothing,
 }
 
 // How a line ended; Nothing is that of a last line that does not end.
@@ -219,10 +212,10 @@ fn printable_end(text: &[u8], at: usize) -> usize
     i
 }
 
-fn line(start: usize, end: usize, next: usize, ended: End) -> Lined
-    ensures { result ≡ Lined.Line (record { start = start; end = end; next = next; ended = ended }) }
+fn line(start: usize, end: usize, next: usize, ended: End) -> Option<Span>
+    ensures { result ≡ Some (record { start = start; end = end; next = next; ended = ended }) }
 {
-    Lined::Line(Span {
+    Some(Span {
         start,
         end,
         next,
@@ -231,11 +224,11 @@ fn line(start: usize, end: usize, next: usize, ended: End) -> Lined
 }
 
 // The line that starts at `at`, if one starts there.
-pub fn find_line(text: &[u8], at: usize) -> Lined
-    ensures { paper_lined result ≡ span_at text.now at }
+pub fn find_line(text: &[u8], at: usize) -> Option<Span>
+    ensures { result ≡ span_at text.now at }
 {
     if text.len() <= at {
-        return Lined::Nothing;
+        return None;
     }
     let mut from = at;
     loop {

@@ -1,7 +1,6 @@
 // The listing program: `YYYY MM` and LF, then a bulletin; it prints the heading and each segment, or the refusal.
 #![tactic(auto)]
 
-use printing::Asked;
 use refusal::Refusal;
 use std::io;
 
@@ -12,13 +11,13 @@ fn main(rt: HostRuntime) -> io::Result<()> {
     let mut out = io::writer(&rt);
     let whole = &input[0..got];
     match printing::read_asked(whole) {
-        Asked::Month(year, month) => printing::list(
+        Some(time) => printing::list(
             &mut out,
             lines::part(whole, 8, got),
-            year,
-            month,
+            time.year,
+            time.month,
         ),
-        Asked::Wrong => printing::say_refusal(
+        None => printing::say_refusal(
             &mut out,
             Refusal {
                 number: refusal::OUT_OF_RANGE,

@@ -7,10 +7,8 @@ use mir.Syntax.{w64}
 use mir.Val.{Fits}
 use Rattle.laws.proofs.Tests.{by_order, impossible, apart}
 use Rattle.months.specs.declared.Month.{Month}
-use Rattle.months.specs.declared.Found.{Found}
-use Rattle.months.specs.declared.Found.TheVariants as found
 use Rattle.months.specs.Months.{month_number, year_of, month_of_year, days_in, all_months, start_of, month_of}
-use Rattle.months.specs.Serving.{Twelve, length_in, month_at, month_in, paper_found, InYear}
+use Rattle.months.specs.Serving.{Twelve, length_in, month_at, month_in, InYear}
 use Rattle.months.proofs.Laws.{start_next, days_high, start_mono, days_of, start_year, start_end_lem, Falls, month_some, falls_low, month_is, month_past}
 
 -- ---- length_after
@@ -121,7 +119,7 @@ module _ (t n : ℕ) where
         }
 
     pub turns_end : t < start + 1440 * days
-        → paper_found (found.In (record { year = 1970 + n; month = month; start = start; days = days })) ≡ month_in (month_of t)
+        → (Some (record { year = 1970 + n; month = month; start = start; days = days })) ≡ month_in (month_of t)
     turns_end h =
         let k = 12 * n + (month - 1) in
         let low : start_of k ≤ t = omega (arith, v.here, v.low) in
@@ -129,7 +127,7 @@ module _ (t n : ℕ) where
         rw (month_is t k (record { low = low; high = omega (arith, here_next); known = known }))
         (ap Some (month_path (omega (arith, v.first, v.last)) (omega (arith, v.first, v.last)) v.here here_days))
 
-pub month_gone : (t : ℕ) → 68418720 ≤ t → paper_found found.Nothing ≡ month_in (month_of t)
+pub month_gone : (t : ℕ) → 68418720 ≤ t → None ≡ month_in (month_of t)
 month_gone t h = rw (month_past t h)
 
 -- ---- what month_of found
@@ -143,15 +141,15 @@ pub record Stands (t : ℕ) (m : Month) : Type 0 where
   pub start : m.start ≡ start_of k
   pub days : m.days ≡ days_in k
 
-module _ (t : ℕ) (r : Found) (e : paper_found r ≡ month_in (month_of t)) where
-  pub none_found : r ≡ found.Nothing → month_of t ≡ None
+module _ (t : ℕ) (r : Option Month) (e : r ≡ month_in (month_of t)) where
+  pub none_found : r ≡ None → month_of t ≡ None
   none_found q = go (month_of t) refl (rw q at e)
     where
       go : (o : Option ℕ) → month_of t ≡ o → None ≡ month_in o → month_of t ≡ None
       go None p h = p
       go (Some k) p h = apart cc
 
-  pub stands : (m : Month) → r ≡ found.In m → Stands t m
+  pub stands : (m : Month) → r ≡ Some m → Stands t m
   stands m q = go (month_of t) refl (rw q at e)
     where
       go : (o : Option ℕ) → month_of t ≡ o → Some m ≡ month_in o → Stands t m
@@ -169,7 +167,7 @@ module _ (t : ℕ) (r : Found) (e : paper_found r ≡ month_in (month_of t)) whe
           }
 
 -- what that says in numbers
-module _ (t : ℕ) (r : Found) (e : paper_found r ≡ month_in (month_of t)) (m : Month) (q : r ≡ found.In m) where
+module _ (t : ℕ) (r : Option Month) (e : r ≡ month_in (month_of t)) (m : Month) (q : r ≡ Some m) where
   pub in_year : InYear m.year m.month
   in_year =
       let st = stands t r e m q in

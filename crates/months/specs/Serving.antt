@@ -3,8 +3,6 @@ use Rattle.std.specs.Prelude.{ℕ, ◌-◌, ◌≤◌}
 use Rattle.std.specs.Prelude.{Option, None, Some}
 use Rattle.months.specs.Months.{month_length, after_january, year_of, month_of_year, days_in, start_of}
 use Rattle.months.specs.declared.Month.{Month}
-use Rattle.months.specs.declared.Found.{Found}
-use Rattle.months.specs.declared.Found.TheVariants as found
 
 -- one of the twelve months
 pub record Twelve (month : ℕ) : Type 0 where
@@ -21,10 +19,6 @@ month_at k = record { year = year_of k; month = month_of_year k; start = start_o
 abbrev pub month_in : Option ℕ → Option Month
 month_in None = None
 month_in (Some k) = Some (month_at k)
-
-abbrev pub paper_found : Found → Option Month
-paper_found found.Nothing = None
-paper_found (found.In month) = Some month
 
 -- a month of the years 1970..2100
 pub record InYear (year month : ℕ) : Type 0 where

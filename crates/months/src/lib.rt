@@ -3,7 +3,7 @@
 
 ghost use Rattle.std.specs.Prelude.{◌≡◌, ◌+◌, ◌*◌, ◌≤◌};
 ghost use Rattle.months.specs.Months.{month_number, days_in, start_of, month_of};
-ghost use Rattle.months.specs.Serving.{Twelve, InYear, length_in, month_in, paper_found};
+ghost use Rattle.months.specs.Serving.{Twelve, InYear, length_in, month_in};
 
 // A month of the calendar: where it starts, in minutes, and its days.
 #[derive(Clone, Copy)]
@@ -12,12 +12,6 @@ pub struct Month {
     pub month: usize,
     pub start: usize,
     pub days: usize,
-}
-
-#[derive(Clone, Copy)]
-pub enum Found {
-    In(Month),
-    Nothing,
 }
 
 // 2100-02-01 0000, where the calendar ends.
@@ -71,11 +65,11 @@ pub fn length_after(year: usize, month: usize, later: usize) -> usize
 }
 
 // The month that a minute falls in. Four years have 1461 days, and no year starts more than 2 / 4 of a day before that measure.
-pub fn month_of(minute: usize) -> Found
-    ensures { paper_found result ≡ month_in (month_of minute) }
+pub fn month_of(minute: usize) -> Option<Month>
+    ensures { result ≡ month_in (month_of minute) }
 {
     if END <= minute {
-        return Found::Nothing;
+        return None;
     }
     let n = (4 * (minute / 1440) + 2) / 1461;
     let mut start = 1440 * days_before(n);
@@ -86,7 +80,7 @@ pub fn month_of(minute: usize) -> Found
         month += 1;
         days = month_length(1970 + n, month);
     }
-    Found::In(Month {
+    Some(Month {
         year: 1970 + n,
         month,
         start,

@@ -1,4 +1,5 @@
 -- The ways out of packing: what the code puts in a number is the packed answer. Assumes nothing.
+use Rattle.std.specs.Prelude.{Option, None, Some, option_map}
 use Prim.Native.Nat.{ℕ, ◌+◌, ◌*◌, ◌-◌, ◌%◌, ◌<◌}
 use native.Mathlib.Omega.{arith}
 use mathlib.Core.Path.{◌≡◌, refl, sym, ap, ◌∙◌}
@@ -11,14 +12,11 @@ use Rattle.writing.specs.Write.{paper_written}
 use Rattle.writing.specs.declared.Written.{Written}
 use Rattle.writing.specs.declared.Written.TheVariants as written
 use Rattle.lines.specs.Bytes.{exactly}
-use Rattle.heading.specs.Paper.{paper_bbb, paper_basin, paper_id, paper_storm}
-use Rattle.heading.specs.declared.Bbb.{Bbb}
-use Rattle.heading.specs.declared.Bbb.TheVariants as bbb
+use Rattle.heading.specs.Paper.{paper_bbb, paper_basin, paper_id}
 use Rattle.heading.specs.declared.Basin.{Basin}
 use Rattle.heading.specs.declared.Basin.TheVariants.{Al, Sl, Ep, Cp, Wp}
+use Rattle.heading.specs.declared.Bbb.{Bbb}
 use Rattle.heading.specs.declared.StormId.{StormId}
-use Rattle.heading.specs.declared.Storm.{Storm}
-use Rattle.heading.specs.declared.Storm.TheVariants as storm
 use Rattle.layout.specs.Rule.{segments_said, paper_reply}
 use Rattle.layout.specs.declared.Changed.{Changed}
 use Rattle.layout.specs.declared.Changed.TheVariants as changed
@@ -49,16 +47,17 @@ module _ (c : Changed) where
       e ∙ ap (λ (x : Changed). spelled (segments_said x)) (sym q)
 
 -- ---- a BBB
-module _ (x : Bbb) where
-  pub bbb_none : x ≡ bbb.Nothing → 0 ≡ bbb_bits (paper_bbb x)
+module _ (x : Option Bbb) where
+  pub bbb_none : x ≡ None → 0 ≡ bbb_bits (option_map paper_bbb x)
   unfolding bbb_bits
-  bbb_none q = ap (λ (y : Bbb). bbb_bits (paper_bbb y)) (sym q)
+  bbb_none q = ap (λ (y : Option Bbb). bbb_bits (option_map paper_bbb y)) (sym q)
 
-  pub bbb_code : (a b c : ℕ) → x ≡ bbb.Code a b c → (u v w : ℕ) → u ≡ a % 256 → v ≡ b % 256 → w ≡ c % 256 → u + 256 * v + 65536 * w ≡ bbb_bits (paper_bbb x)
+  pub bbb_code : (a b c : ℕ) → x ≡ Some (record { 0 = a; 1 = b; 2 = c }) → (u v w : ℕ) → u ≡ a % 256 → v ≡ b % 256 → w ≡ c % 256
+      → u + 256 * v + 65536 * w ≡ bbb_bits (option_map paper_bbb x)
   unfolding bbb_bits spelled
   bbb_code a b c q u v w eu ev ew =
       let e : u + 256 * v + 65536 * w ≡ a % 256 + 256 * (b % 256 + 256 * (c % 256 + 256 * 0)) = omega arith in
-      e ∙ ap (λ (y : Bbb). bbb_bits (paper_bbb y)) (sym q)
+      e ∙ ap (λ (y : Option Bbb). bbb_bits (option_map paper_bbb y)) (sym q)
 
 -- ---- a storm
 module _ (b : Basin) where
@@ -85,14 +84,14 @@ module _ (b : Basin) where
   unfolding basin_number exactly
   basin_wp = as_basin Wp 5 refl
 
-module _ (s : Storm) where
-  pub storm_none : s ≡ storm.None → 0 ≡ storm_bits (paper_storm s)
+module _ (s : Option StormId) where
+  pub storm_none : s ≡ None → 0 ≡ storm_bits (option_map paper_id s)
   unfolding storm_bits
-  storm_none q = ap (λ (x : Storm). storm_bits (paper_storm x)) (sym q)
+  storm_none q = ap (λ (x : Option StormId). storm_bits (option_map paper_id x)) (sym q)
 
-  pub storm_found : (id : StormId) → s ≡ storm.Found id → (r : ℕ) → r ≡ name_bits (paper_id id) → r ≡ storm_bits (paper_storm s)
+  pub storm_found : (id : StormId) → s ≡ Some id → (r : ℕ) → r ≡ name_bits (paper_id id) → r ≡ storm_bits (option_map paper_id s)
   unfolding storm_bits
-  storm_found id q r e = e ∙ ap (λ (x : Storm). storm_bits (paper_storm x)) (sym q)
+  storm_found id q r e = e ∙ ap (λ (x : Option StormId). storm_bits (option_map paper_id x)) (sym q)
 
 -- ---- a view
 pub view_none : (a b : ℕ) → b < a → a % start_end ≡ view_bits (record { start = a; size = b - a })

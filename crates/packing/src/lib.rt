@@ -1,15 +1,15 @@
 // How the answer of a call becomes one number of 64 bits: specs/Packing.antt says how, with the way back.
 #![tactic(auto)]
 
-ghost use Rattle.std.specs.Prelude.{◌≡◌, ◌-◌, ◌%◌, ◌≤◌, ◌<◌};
+ghost use Rattle.std.specs.Prelude.{◌≡◌, option_map, ◌-◌, ◌%◌, ◌≤◌, ◌<◌};
 ghost use Rattle.refusal.specs.Answer.{paper_verdict};
 ghost use Rattle.writing.specs.Write.{paper_written};
 ghost use Rattle.layout.specs.Layout as layouts;
 ghost use Rattle.layout.specs.Rule.{segments_said, paper_reply};
-ghost use Rattle.heading.specs.Paper.{paper_bbb, paper_basin, paper_class, paper_id, paper_storm};
+ghost use Rattle.heading.specs.Paper.{paper_bbb, paper_basin, paper_class, paper_id};
 ghost use Rattle.packing.specs.Packing.{cell, pack, packed, nothing, plain, spelled, bbb_bits, basin_number, class_number, name_bits, storm_bits, view_bits};
 
-use heading::{Basin, Bbb, Class, Storm, StormId};
+use heading::{Basin, Bbb, Class, StormId};
 use layout::{Changed, Reply};
 use refusal::Verdict;
 use writing::Written;
@@ -80,12 +80,12 @@ fn byte(b: u8) -> usize
 }
 
 // A BBB's three bytes, 0 for none.
-pub fn pack_bbb(bbb: Bbb) -> usize
-    ensures { result ≡ bbb_bits (paper_bbb bbb) }
+pub fn pack_bbb(bbb: Option<Bbb>) -> usize
+    ensures { result ≡ bbb_bits (option_map paper_bbb bbb) }
 {
     match bbb {
-        Bbb::Nothing => 0,
-        Bbb::Code(a, b, c) => byte(a) + 256 * byte(b) + 65536 * byte(c),
+        None => 0,
+        Some(Bbb(a, b, c)) => byte(a) + 256 * byte(b) + 65536 * byte(c),
     }
 }
 
@@ -125,12 +125,12 @@ fn pack_id(id: StormId) -> usize
 }
 
 // The storm, 0 for none.
-pub fn pack_storm(storm: Storm) -> usize
-    ensures { result ≡ storm_bits (paper_storm storm) }
+pub fn pack_storm(storm: Option<StormId>) -> usize
+    ensures { result ≡ storm_bits (option_map paper_id storm) }
 {
     match storm {
-        Storm::None => 0,
-        Storm::Found(id) => pack_id(id),
+        None => 0,
+        Some(id) => pack_id(id),
     }
 }
 

@@ -1,4 +1,5 @@
 -- The ways out of the reader's functions. Assumes nothing.
+use Rattle.std.specs.Prelude.{option_map}
 use Prim.Native.Nat.{ℕ, ◌-◌}
 use native.Mathlib.Omega.{arith}
 use mathlib.Core.Path.{◌≡◌, refl, sym, ap, ◌∙◌}
@@ -6,7 +7,7 @@ use mathlib.Core.List.{List}
 use lib.Seq.{length-take-le}
 use Rattle.refusal.specs.declared.Refusal.{Refusal}
 use Rattle.refusal.specs.Answer.{Answer}
-use Rattle.heading.specs.Paper.{paper_bbb, paper_storm}
+use Rattle.heading.specs.Paper.{paper_bbb, paper_id}
 use Rattle.bulletin.specs.Bulletin.{read_bulletin}
 use Rattle.segments.specs.Seen.{segments_held, Sized}
 use Rattle.bulletin.specs.Report.{Report, reported, report_of, reading_of, Reads}
@@ -41,13 +42,13 @@ module _ (s : List ℕ) (year month : ℕ) (b : Bulletin) (reads : Reads s year 
     pub read_count_lem : Sized b.segments → (r : ℕ) → r ≡ cell 0 b.segments.count → r ≡ pack count_in (reported (read_bulletin s year month))
     read_count_lem z r e = read_ok count_in b.segments.count r (sym (length-take-le b.segments.count b.segments.held (omega (arith, z.long, z.few)))) e
 
-    pub read_bbb : (n : ℕ) → n ≡ bbb_bits (paper_bbb h.heading.bbb) → (r : ℕ) → r ≡ cell 0 n → r ≡ pack bbb_in (reported (read_bulletin s year month))
+    pub read_bbb : (n : ℕ) → n ≡ bbb_bits (option_map paper_bbb h.heading.bbb) → (r : ℕ) → r ≡ cell 0 n → r ≡ pack bbb_in (reported (read_bulletin s year month))
     read_bbb n en r e = read_ok bbb_in n r en e
 
     pub read_identifier : (r : ℕ) → r ≡ cell 0 h.identifier → r ≡ pack identifier_in (reported (read_bulletin s year month))
     read_identifier r e = read_ok identifier_in h.identifier r refl e
 
-    pub read_storm : (n : ℕ) → n ≡ storm_bits (paper_storm h.storm) → (r : ℕ) → r ≡ cell 0 n → r ≡ pack storm_bits_in (reported (read_bulletin s year month))
+    pub read_storm : (n : ℕ) → n ≡ storm_bits (option_map paper_id h.storm) → (r : ℕ) → r ≡ cell 0 n → r ≡ pack storm_bits_in (reported (read_bulletin s year month))
     read_storm n en r e = read_ok storm_bits_in n r en e
 
 -- ---- of a segment

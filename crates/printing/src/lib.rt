@@ -5,22 +5,20 @@ ghost use Rattle.std.specs.Prelude.{◌≡◌, ◌<◌, ◌≤◌, length, get_o
 ghost use Rattle.std.specs.Io.KnownBytes.{Appends, Consumes, IsAtEnd};
 ghost use Rattle.lines.specs.Bytes.{digit};
 ghost use Rattle.printing.specs.Asked.{asked_of};
-ghost use Rattle.printing.specs.Paper.{paper_asked};
 
 use bulletin::{Head, Reading};
-use heading::{Basin, Bbb, Storm, StormId};
-use lines::Lined;
+use heading::{Basin, Bbb, StormId};
 use refusal::Refusal;
 use segments::Segment;
 use std::io;
 use std::io::{Read, Write};
 use writing::Written;
 
-// The year and month that the first line names.
+// The time that a bulletin is read under.
 #[derive(Clone, Copy)]
-pub enum Asked {
-    Month(usize, usize),
-    Wrong,
+pub struct YearMonth {
+    pub year: usize,
+    pub month: usize,
 }
 
 fn is_digit(input: &[u8], k: usize) -> bool
@@ -30,8 +28,8 @@ fn is_digit(input: &[u8], k: usize) -> bool
 }
 
 // The year and month that the first line names.
-pub fn read_asked(input: &[u8]) -> Asked
-    ensures { paper_asked result ≡ asked_of input.now }
+pub fn read_asked(input: &[u8]) -> Option<YearMonth>
+    ensures { result ≡ asked_of input.now }
 {
     let a = is_digit(input, 0);
     let b = is_digit(input, 1);
@@ -42,10 +40,12 @@ pub fn read_asked(input: &[u8]) -> Asked
     let f = is_digit(input, 6);
     let end = lines::byte(input, 7);
     if (a & b & c & d) & (space == 32) & (e & f) & (end == 10) {
-        let year = 100 * codes::two(input, 0) + codes::two(input, 2);
-        return Asked::Month(year, codes::two(input, 5));
+        return Some(YearMonth {
+            year: 100 * codes::two(input, 0) + codes::two(input, 2),
+            month: codes::two(input, 5),
+        });
     }
-    Asked::Wrong
+    None
 }
 
 // Reads until the buffer is full or the input ends, and answers how many bytes it put at the buffer's start.
@@ -94,10 +94,10 @@ pub fn say_refusal<W: Write>(out: &mut W, r: Refusal) -> io::Result<()> {
     say(out, b"\n")
 }
 
-fn say_bbb<W: Write>(out: &mut W, bbb: Bbb) -> io::Result<()> {
+fn say_bbb<W: Write>(out: &mut W, bbb: Option<Bbb>) -> io::Result<()> {
     match bbb {
-        Bbb::Nothing => say(out, b"-"),
-        Bbb::Code(a, b, c) => {
+        None => say(out, b"-"),
+        Some(Bbb(a, b, c)) => {
             let text = [a, b, c];
             say(out, &text)
         }
@@ -114,10 +114,10 @@ fn say_basin<W: Write>(out: &mut W, basin: Basin) -> io::Result<()> {
     }
 }
 
-fn say_storm<W: Write>(out: &mut W, storm: Storm) -> io::Result<()> {
+fn say_storm<W: Write>(out: &mut W, storm: Option<StormId>) -> io::Result<()> {
     match storm {
-        Storm::None => say(out, b"-"),
-        Storm::Found(id) => {
+        None => say(out, b"-"),
+        Some(id) => {
             let basin = id.basin;
             say_basin(out, basin)?;
             say_two(out, id.number)?;
@@ -129,7 +129,7 @@ fn say_storm<W: Write>(out: &mut W, storm: Storm) -> io::Result<()> {
 
 // The line that starts at `at`, without its end.
 fn say_line<W: Write>(out: &mut W, text: &[u8], at: usize) -> io::Result<()> {
-    if let Lined::Line(line) = lines::find_line(text, at) {
+    if let Some(line) = lines::find_line(text, at) {
         say(out, lines::part(text, line.start, line.end))?;
     }
     Ok(())

@@ -16,8 +16,7 @@ use Rattle.codes.specs.Places.{place_of, nil}
 use Rattle.codes.specs.Serving.{Low}
 use Rattle.codes.specs.Elements.{Element, elements_from}
 use Rattle.codes.specs.Block.{insert_run, insert_covered, Read, block, wrong_at, read_from, read_block, Stretch, stretch_of, covered_before, twice_from, twice_at}
-use Rattle.codes.specs.Cursor.{paper_last, step_at}
-use Rattle.codes.specs.declared.Last.TheVariants.{Prefix, Nothing}
+use Rattle.codes.specs.Cursor.{step_at}
 use Rattle.codes.specs.declared.Cursor.{Cursor}
 use Rattle.codes.specs.declared.Step.{Step}
 use Rattle.codes.proofs.Bounds.{Below}
@@ -68,7 +67,7 @@ over_good t (rest.Wrong place) r e = rw e none_good
 
 -- the first repeating element from the reading place on
 abbrev twice_on : List ℕ → Cursor → List Stretch → Option ℕ
-twice_on s c before = twice_from (paper_last c.last) before (elements_from c.at (drop c.at s))
+twice_on s c before = twice_from c.last before (elements_from c.at (drop c.at s))
 
 -- the block from here is the block from its start: all places so far are held, and the first element that covers one of them again is still ahead
 pub record Reads (s : List ℕ) (at : ℕ) (c : Cursor) (held : List ℕ) (count : ℕ) : Type 0 where
@@ -76,11 +75,11 @@ pub record Reads (s : List ℕ) (at : ℕ) (c : Cursor) (held : List ℕ) (count
   pub each : All Stretched before
   pub good : Good (kept held count)
   pub all : take count held ≡ gathered before
-  pub known : Below (paper_last c.last)
-  pub same : read_from (length s) (paper_last c.last) (gathered before) (elements_from c.at (drop c.at s)) ≡ read_block s at
+  pub known : Below c.last
+  pub same : read_from (length s) c.last (gathered before) (elements_from c.at (drop c.at s)) ≡ read_block s at
   pub repeat : twice_on s c before ≡ twice_at s at
 
-pub reads_start : (s : List ℕ) (at : ℕ) (held : List ℕ) → held ≡ replicate 120 0 → Reads s at (record { at = at; last = Nothing }) held 0
+pub reads_start : (s : List ℕ) (at : ℕ) (held : List ℕ) → held ≡ replicate 120 0 → Reads s at (record { at = at; last = None }) held 0
 unfolding read_block twice_at gathered vacant
 reads_start s at held h =
     record {
@@ -129,7 +128,7 @@ module _ (s : List ℕ) (at : ℕ) (c : Cursor) (array : List ℕ) (count : ℕ)
 
     -- the reading place behind it, and the elements from there on
     abbrev behind : Cursor
-    behind = record { at = next.at; last = Prefix p }
+    behind = record { at = next.at; last = Some p }
 
     abbrev rest_of_lem : List Element
     rest_of_lem = elements_from next.at (drop next.at s)

@@ -10,10 +10,7 @@ use Rattle.laws.proofs.Tests.{by, apart}
 use Rattle.refusal.specs.Numbers.{wrong_time, wrong_block, too_many_places, place_twice}
 use Rattle.refusal.specs.Answer.{Answer, ok, no, refusal_for, and_then}
 use Rattle.calendar.specs.Purge.{purge_of}
-use Rattle.calendar.specs.Paper.{paper_moment}
 use Rattle.calendar.specs.declared.Stamp.{Stamp}
-use Rattle.calendar.specs.declared.Moment.{Moment}
-use Rattle.calendar.specs.declared.Moment.TheVariants as moment
 use Rattle.codes.specs.Block.{Read, block, wrong_at, read_block, twice_at, dated, content_in, content_at}
 use Rattle.sets.specs.Held.{places_for, Good}
 use Rattle.sets.specs.declared.Places.{Places}
@@ -86,26 +83,26 @@ module _ (s : List ℕ) (issue start : ℕ) (b : Block) (eb : b ≡ block_for (t
       let p : told (twice_at s start) (read_block s start) ≡ no 25 again = ap₂ told w.twice w.is in
       q ∙ sym (ap content_for p)
 
-  module _ (stamp : Stamp) (place : ℕ) (f : b.found ≡ Whole stamp place) (m : Moment) (em : paper_moment m ≡ purge_of issue stamp) where
+  module _ (stamp : Stamp) (place : ℕ) (f : b.found ≡ Whole stamp place) (m : Option ℕ) (em : m ≡ purge_of issue stamp) where
     wholly : Wholly stamp place (twice_at s start) (read_block s start)
     wholly = whole_is stamp place (twice_at s start) (read_block s start) (sym (ap (λ (x : Block). x.found) eb) ∙ f)
 
     read_is : b ≡ block_for None (block wholly.ps stamp place)
     read_is = eb ∙ ap₂ block_for wholly.once wholly.is
 
-    abbrev told : Moment → Answer Placed
-    told x = and_then (dated start place wholly.ps (paper_moment x)) (λ c. ok (record { content = c; at = place }))
+    abbrev told : Option ℕ → Answer Placed
+    told x = and_then (dated start place wholly.ps x) (λ c. ok (record { content = c; at = place }))
 
     placed_is : placed_at s issue start ≡ told m
     unfolding placed_at content_at and_then
     placed_is = rw (wholly.is, wholly.once, ← em)
 
     -- a purge that has no minute
-    pub content_time : m ≡ moment.Nothing → (r : Content) → r ≡ record { purge = Refused (refusal_for wrong_time place); places = places_for [] } → r ≡ content_for (placed_at s issue start)
+    pub content_time : m ≡ None → (r : Content) → r ≡ record { purge = Refused (refusal_for wrong_time place); places = places_for [] } → r ≡ content_for (placed_at s issue start)
     unfolding and_then
     content_time n r q = let w : placed_at s issue start ≡ no 5 place = placed_is ∙ ap told n in q ∙ sym (ap content_for w)
 
-    module _ (minute : ℕ) (y : m ≡ moment.At minute) where
+    module _ (minute : ℕ) (y : m ≡ Some minute) where
       many : b.over ≡ true → leb (length wholly.ps) 120 ≡ false
       many o = by (leb (length wholly.ps) 120) (λ t. let z : false ≡ true = sym (ap (λ (x : Block). x.over) read_is ∙ rw t) ∙ o in apart cc) (λ t. t)
 
@@ -116,7 +113,7 @@ module _ (s : List ℕ) (issue start : ℕ) (b : Block) (eb : b ≡ block_for (t
       pub content_many : b.over ≡ true → (r : Content) → r ≡ record { purge = Refused (refusal_for too_many_places start); places = places_for [] } → r ≡ content_for (placed_at s issue start)
       unfolding and_then
       content_many o r q =
-          let c : told (moment.At minute) ≡ no 11 start = rw (many o) in
+          let c : told (Some minute) ≡ no 11 start = rw (many o) in
           let w : placed_at s issue start ≡ no 11 start = placed_is ∙ ap told y ∙ c in
           q ∙ sym (ap content_for w)
 
@@ -124,7 +121,7 @@ module _ (s : List ℕ) (issue start : ℕ) (b : Block) (eb : b ≡ block_for (t
       pub content_few : b.over ≡ false → record { purge = At minute place; places = b.places } ≡ content_for (placed_at s issue start)
       unfolding and_then
       content_few o =
-          let c : told (moment.At minute) ≡ ok (record { content = record { purge = minute; places = wholly.ps }; at = place }) = rw (few o) in
+          let c : told (Some minute) ≡ ok (record { content = record { purge = minute; places = wholly.ps }; at = place }) = rw (few o) in
           let w : placed_at s issue start ≡ ok (record { content = record { purge = minute; places = wholly.ps }; at = place }) = placed_is ∙ ap told y ∙ c in
           let p : b.places ≡ places_for wholly.ps = ap (λ (x : Block). x.places) read_is ∙ rw (few o) in
           ap (λ (x : Places). record { purge = At minute place; places = x }) p ∙ sym (ap content_for w)

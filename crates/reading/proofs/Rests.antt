@@ -12,17 +12,13 @@ use Rattle.codes.specs.Places.{place_of, prefixes}
 use Rattle.codes.specs.Elements.{Element, elements_from, said}
 use Rattle.codes.specs.Elements as elements
 use Rattle.codes.specs.Block.{insert_covered, block, wrong_at, ended, read_from}
-use Rattle.codes.specs.Cursor.{paper_last, step_at}
-use Rattle.codes.specs.declared.Last.TheVariants.{Prefix}
+use Rattle.codes.specs.Cursor.{step_at}
 use Rattle.codes.specs.declared.Cursor.{Cursor}
 use Rattle.codes.specs.declared.Step.{Step}
 use Rattle.codes.proofs.Bounds.{Below}
 use Rattle.codes.proofs.Members.{run_length}
 use Rattle.codes.proofs.Turns.{read_covers, read_purge_lem, read_wrong}
 use Rattle.codes.proofs.Steps.{read_then, read_step, Ahead, step_ahead}
-use Rattle.repeats.specs.Passes.{paper_twice}
-use Rattle.repeats.specs.declared.Twice.{Twice}
-use Rattle.repeats.specs.declared.Twice.TheVariants as twice
 use Rattle.reading.specs.Held.{bare_for}
 use Rattle.reading.specs.Rests.{Known, read_on, rest_of, many_for, over_for}
 use Rattle.reading.specs.declared.Block.{Block}
@@ -79,11 +75,11 @@ below_known (Some q) b p e = let f : q ≡ p = cc in omega arith
 
 -- the end from here is the end from the start
 pub record Resting (s : List ℕ) (from c : Cursor) : Type 0 where
-  pub known : Below (paper_last c.last)
+  pub known : Below c.last
   pub same : rest_of (read_on s c) ≡ rest_of (read_on s from)
 
 pub resting_start : (s : List ℕ) (from : Cursor) → Known from → Resting s from from
-resting_start s from k = record { known = below_of_lem (paper_last from.last) k.low; same = refl }
+resting_start s from k = record { known = below_of_lem from.last k.low; same = refl }
 
 module _ (s : List ℕ) (from c : Cursor) (v : Resting s from c) (r : Step) (e : r ≡ step_at s c) where
   rest_is : (y : Step) → r ≡ y → rest_of (read_then s [] y) ≡ rest_of (read_on s from)
@@ -102,7 +98,7 @@ module _ (s : List ℕ) (from c : Cursor) (v : Resting s from c) (r : Step) (e :
     pub resting_less : length s - next.at < length s - c.at
     resting_less = omega (arith, ahead.inside, ahead.more, ahead.within)
 
-    pub resting_on : Resting s from (record { at = next.at; last = Prefix p })
+    pub resting_on : Resting s from (record { at = next.at; last = Some p })
     resting_on =
         record {
           known = ahead.low.known;
@@ -118,11 +114,11 @@ module _ (r end : Rest) (er : r ≡ end) (t : Option ℕ) (b : Block) where
     over_purge : (o : Option ℕ) → o ≡ t → b ≡ many_for o stamp place → b ≡ over_for t end
     over_purge o eo w = w ∙ ap (λ (x : Option ℕ). many_for x stamp place) eo ∙ ap (over_for t) (sym q ∙ er)
 
-    pub over_again : (w : Twice) → paper_twice w ≡ t → (again : ℕ) → w ≡ twice.At again → b ≡ bare_for (found.Twice again) false → b ≡ over_for t end
-    over_again w ew again e d = over_purge (paper_twice w) ew (d ∙ ap (λ (x : Twice). many_for (paper_twice x) stamp place) (sym e))
+    pub over_again : (w : Option ℕ) → w ≡ t → (again : ℕ) → w ≡ Some again → b ≡ bare_for (found.Twice again) false → b ≡ over_for t end
+    over_again w ew again e d = over_purge w ew (d ∙ ap (λ (x : Option ℕ). many_for x stamp place) (sym e))
 
-    pub over_many : (w : Twice) → paper_twice w ≡ t → w ≡ twice.Nothing → b ≡ bare_for (found.Whole stamp place) true → b ≡ over_for t end
-    over_many w ew e d = over_purge (paper_twice w) ew (d ∙ ap (λ (x : Twice). many_for (paper_twice x) stamp place) (sym e))
+    pub over_many : (w : Option ℕ) → w ≡ t → w ≡ None → b ≡ bare_for (found.Whole stamp place) true → b ≡ over_for t end
+    over_many w ew e d = over_purge w ew (d ∙ ap (λ (x : Option ℕ). many_for x stamp place) (sym e))
 
     pub over_known : (again : ℕ) → Some again ≡ t → b ≡ bare_for (found.Twice again) false → b ≡ over_for t end
     over_known again e d = over_purge (Some again) e d

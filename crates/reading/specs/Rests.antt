@@ -5,7 +5,6 @@ use Rattle.calendar.specs.declared.Stamp.{Stamp}
 use Rattle.codes.specs.Places.{prefixes}
 use Rattle.codes.specs.Elements.{elements_from}
 use Rattle.codes.specs.Block.{Read, block, wrong_at, read_from}
-use Rattle.codes.specs.Cursor.{paper_last}
 use Rattle.codes.specs.declared.Cursor.{Cursor}
 use Rattle.reading.specs.Held.{bare_for}
 use Rattle.reading.specs.declared.Rest.{Rest}
@@ -15,11 +14,11 @@ use Rattle.reading.specs.declared.Block.{Block}
 
 -- the last prefix, if there is one, is a prefix
 pub record Known (c : Cursor) : Type 0 where
-  pub low : (p : ℕ) → paper_last c.last ≡ Some p → p < prefixes
+  pub low : (p : ℕ) → c.last ≡ Some p → p < prefixes
 
 -- read from the reading place on
 abbrev pub read_on : List ℕ → Cursor → Read
-read_on s c = read_from (length s) (paper_last c.last) [] (elements_from c.at (drop c.at s))
+read_on s c = read_from (length s) c.last [] (elements_from c.at (drop c.at s))
 
 -- where it ends
 abbrev pub rest_of : Read → Rest

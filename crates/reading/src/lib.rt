@@ -9,10 +9,9 @@ ghost use Rattle.reading.specs.Placed.{placed_at};
 ghost use Rattle.reading.specs.Held.{bare_for, block_for, content_for};
 ghost use Rattle.reading.specs.Rests.{Known, read_on, rest_of, over_for};
 
-use calendar::{Moment, Stamp};
-use codes::{Cursor, Last, Step};
+use calendar::Stamp;
+use codes::{Cursor, Step};
 use refusal::Refusal;
-use repeats::Twice;
 use sets::{Places, Put};
 
 // A whole block's DDHHMM and the place of its element; the place of the first element that covers a place already covered; or that of the first wrong element.
@@ -84,7 +83,7 @@ fn rest_of(text: &[u8], from: Cursor) -> Rest
             Step::Covers(prefix, _, _, next) => {
                 cursor = Cursor {
                     at: next.at,
-                    last: Last::Prefix(prefix),
+                    last: Some(prefix),
                 };
             }
             Step::Purge(stamp, place) => {
@@ -106,7 +105,7 @@ fn found_over(text: &[u8], at: usize, from: Cursor) -> Block
     match rest {
         Rest::Wrong(place) => bare(Found::Wrong(place), false),
         Rest::Purge(stamp, place) => {
-            let Twice::At(again) = repeats::first_twice(text, at) else {
+            let Some(again) = repeats::first_twice(text, at) else {
                 return bare(Found::Whole(stamp, place), true);
             };
             bare(Found::Twice(again), false)
@@ -133,7 +132,7 @@ pub fn read_block(text: &[u8], at: usize) -> Block
 {
     let mut cursor = Cursor {
         at,
-        last: Last::Nothing,
+        last: None,
     };
     let mut held: [u32; 120] = [0; 120];
     let mut count = 0;
@@ -144,7 +143,7 @@ pub fn read_block(text: &[u8], at: usize) -> Block
             Step::Covers(prefix, first, last, next) => {
                 cursor = Cursor {
                     at: next.at,
-                    last: Last::Prefix(prefix),
+                    last: Some(prefix),
                 };
                 let put = sets::cover(&mut held, count, prefix, first, last);
                 match put {
@@ -180,7 +179,7 @@ pub fn read_content(text: &[u8], start: usize, issue: usize) -> Content
         Found::Wrong(place) => refused(refusal::WRONG_BLOCK, place),
         Found::Twice(again) => refused(refusal::PLACE_TWICE, again),
         Found::Whole(stamp, place) => {
-            let Moment::At(minute) = calendar::purge_of(issue, stamp) else {
+            let Some(minute) = calendar::purge_of(issue, stamp) else {
                 return refused(refusal::WRONG_TIME, place);
             };
             if block.over {

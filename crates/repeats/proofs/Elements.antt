@@ -13,9 +13,8 @@ use Rattle.codes.specs.Places.{prefixes}
 use Rattle.codes.specs.Elements.{elements_from}
 use Rattle.codes.specs.Serving.{Low}
 use Rattle.codes.specs.Block.{Stretch, stretch_of, covered_before, twice_from, twice_at}
-use Rattle.codes.specs.Cursor.{paper_last, step_at}
+use Rattle.codes.specs.Cursor.{step_at}
 use Rattle.calendar.specs.declared.Stamp.{Stamp}
-use Rattle.codes.specs.declared.Last.TheVariants.{Nothing}
 use Rattle.codes.specs.declared.Cursor.{Cursor}
 use Rattle.codes.specs.declared.Step.{Step}
 use Rattle.codes.specs.declared.Step.TheVariants.{Covers, Purge, Wrong}
@@ -61,10 +60,10 @@ module _ (these : ℕ → Bool) (before : List Stretch) (x : Covering) (xs : Lis
 pub record Reading (text : List ℕ) (c : Cursor) : Type 0 where
   pub most : ℕ
   pub enough : length text ≤ c.at + most
-  pub known : Below (paper_last c.last)
+  pub known : Below c.last
 
 abbrev pub start : ℕ → Cursor
-start at = record { at = at; last = Nothing }
+start at = record { at = at; last = None }
 
 abbrev pub reading_start : (text : List ℕ) (at : ℕ) → Reading text (start at)
 reading_start text at = record { most = length text; enough = omega arith; known = tt }
@@ -136,11 +135,11 @@ ordered_from : {a b : ℕ} {xs : List Covering} → a ≤ b → Ordered b xs →
 ordered_from h ordered_nil = ordered_nil
 ordered_from {a} h (ordered_cons _ x l w o) = ordered_cons a x (omega arith) w o
 
-ordered_read : (k : ℕ) (text : List ℕ) (c : Cursor) → Below (paper_last c.last) → Ordered c.at (coverings_from k text c)
+ordered_read : (k : ℕ) (text : List ℕ) (c : Cursor) → Below c.last → Ordered c.at (coverings_from k text c)
 ordered_read zero text c b = rw (coverings_none text c) ordered_nil
 ordered_read (suc k) text c b = by_step (step_at text c) refl (ordered_read k text)
   where
-    by_step : (y : Step) → step_at text c ≡ y → ((next : Cursor) → Below (paper_last next.last) → Ordered next.at (coverings_from k text next))
+    by_step : (y : Step) → step_at text c ≡ y → ((next : Cursor) → Below next.last → Ordered next.at (coverings_from k text next))
         → Ordered c.at (coverings_from (suc k) text c)
     by_step (Covers p n m next) e more =
         let a : Ahead text c p n m next = step_ahead text c p n m next b e in
@@ -155,8 +154,8 @@ coverings_ordered text at = ordered_read (length text) text (start at) tt
 
 -- under all prefixes, the first that repeats a place is the one that document 02 asks for
 module _ (these : ℕ → Bool) (all : (p : ℕ) → p < prefixes → these p ≡ true) (text : List ℕ) where
-  first_from : (k : ℕ) (before : List Stretch) (c : Cursor) → Below (paper_last c.last) → length text ≤ c.at + k
-      → first_twice these before (coverings_from k text c) ≡ twice_from (paper_last c.last) before (elements_from c.at (drop c.at text))
+  first_from : (k : ℕ) (before : List Stretch) (c : Cursor) → Below c.last → length text ≤ c.at + k
+      → first_twice these before (coverings_from k text c) ≡ twice_from c.last before (elements_from c.at (drop c.at text))
   unfolding first_twice
   first_from zero before c b h = rw (coverings_none text c, twice_step text before c) (by_step (step_at text c) refl)
     where
@@ -167,8 +166,8 @@ module _ (these : ℕ → Bool) (all : (p : ℕ) → p < prefixes → these p �
   first_from (suc k) before c b h = rw (twice_step text before c) (by_step (step_at text c) refl (first_from k))
     where
       by_step : (y : Step) → step_at text c ≡ y
-          → ((before : List Stretch) (c : Cursor) → Below (paper_last c.last) → length text ≤ c.at + k
-          → first_twice these before (coverings_from k text c) ≡ twice_from (paper_last c.last) before (elements_from c.at (drop c.at text)))
+          → ((before : List Stretch) (c : Cursor) → Below c.last → length text ≤ c.at + k
+          → first_twice these before (coverings_from k text c) ≡ twice_from c.last before (elements_from c.at (drop c.at text)))
           → first_twice these before (coverings_from (suc k) text c) ≡ twice_then text c.at before y
       by_step (Covers p n m next) e more =
           let a : Ahead text c p n m next = step_ahead text c p n m next b e in

@@ -4,4 +4,3 @@ pub mod Elements
 pub mod Rising
 pub mod Passes
 pub mod Passing
-pub mod OneToOne

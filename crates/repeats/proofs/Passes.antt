@@ -10,9 +10,7 @@ use Rattle.laws.proofs.Tests.{by, by_order, apart}
 use Rattle.codes.specs.Places.{prefixes}
 use Rattle.codes.specs.Block.{Stretch, covered_before, twice_at}
 use Rattle.repeats.specs.Marks.{window, from_up_to}
-use Rattle.repeats.specs.Passes.{paper_twice, earlier, Covering, stretch, coverings, first_twice}
-use Rattle.repeats.specs.declared.Twice.{Twice}
-use Rattle.repeats.specs.declared.Twice.TheVariants.{At, Nothing}
+use Rattle.repeats.specs.Passes.{earlier, Covering, stretch, coverings, first_twice}
 use Rattle.repeats.proofs.Elements.{Ordered, ordered_cons, coverings_ordered, first_here, first_on, first_all}
 
 -- ---- the earlier of two places
@@ -25,13 +23,13 @@ back x None h = refl
 back x (Some y) h =
     by_order x y (λ k. rw (lt-leb y x k)) (λ k. let e : x ≡ y = omega (arith, h y refl) in rw (le-leb y x k) (ap Some e))
 
-pub first_alone : (a b : Twice) (x : ℕ) → a ≡ At x → b ≡ Nothing → Some x ≡ earlier (paper_twice a) (paper_twice b)
+pub first_alone : (a b : Option ℕ) (x : ℕ) → a ≡ Some x → b ≡ None → Some x ≡ earlier a b
 first_alone a b x e q = rw (e, q)
 
-pub first_front : (a b : Twice) (x y : ℕ) → a ≡ At x → b ≡ At y → x ≤ y → Some x ≡ earlier (paper_twice a) (paper_twice b)
+pub first_front : (a b : Option ℕ) (x y : ℕ) → a ≡ Some x → b ≡ Some y → x ≤ y → Some x ≡ earlier a b
 first_front a b x y e q h = rw (e, q, le-leb x y h)
 
-pub first_back : (a b : Twice) (x y : ℕ) → a ≡ At x → b ≡ At y → y < x → Some y ≡ earlier (paper_twice a) (paper_twice b)
+pub first_back : (a b : Option ℕ) (x y : ℕ) → a ≡ Some x → b ≡ Some y → y < x → Some y ≡ earlier a b
 first_back a b x y e q h = rw (e, q, lt-leb x y h)
 
 -- ---- two sets of prefixes
@@ -84,15 +82,15 @@ joined low next p h =
     (λ k. rw (le-leb 0 p (omega arith), lt-ltb p low k, lt-ltb p next (omega arith)))
     λ k. rw (le-leb 0 p (omega arith), le-ltb p low k, le-leb low p k)
 
-pub record Asked (text : List ℕ) (at low : ℕ) (best : Twice) : Type 0 where
-  pub so_far : paper_twice best ≡ first_twice (from_up_to 0 low) [] (coverings text at)
+pub record Asked (text : List ℕ) (at low : ℕ) (best : Option ℕ) : Type 0 where
+  pub so_far : best ≡ first_twice (from_up_to 0 low) [] (coverings text at)
 
-pub asked_start : (text : List ℕ) (at lowest : ℕ) → None ≡ first_twice (from_up_to 0 lowest) [] (coverings text at) → Asked text at lowest Nothing
+pub asked_start : (text : List ℕ) (at lowest : ℕ) → None ≡ first_twice (from_up_to 0 lowest) [] (coverings text at) → Asked text at lowest None
 asked_start text at lowest e = record { so_far = e }
 
-module _ (text : List ℕ) (at low : ℕ) (best : Twice) (v : Asked text at low best) where
-  pub asked_on : (next : ℕ) → low + window ≤ next → (found : Twice) → paper_twice found ≡ first_twice (from_up_to low next) [] (coverings text at)
-      → (r : Twice) → paper_twice r ≡ earlier (paper_twice best) (paper_twice found) → Asked text at next r
+module _ (text : List ℕ) (at low : ℕ) (best : Option ℕ) (v : Asked text at low best) where
+  pub asked_on : (next : ℕ) → low + window ≤ next → (found : Option ℕ) → found ≡ first_twice (from_up_to low next) [] (coverings text at)
+      → (r : Option ℕ) → r ≡ earlier best found → Asked text at next r
   asked_on next h found ef r er =
       let both : (p : ℕ) → from_up_to 0 next p ≡ (from_up_to 0 low p || from_up_to low next p) = λ p. joined low next p (omega arith) in
       record {
@@ -101,5 +99,5 @@ module _ (text : List ℕ) (at low : ℕ) (best : Twice) (v : Asked text at low 
             ∙ sym (split (from_up_to 0 low) (from_up_to low next) (from_up_to 0 next) both at [] (coverings text at) (coverings_ordered text at));
       }
 
-  pub asked_done : prefixes ≤ low → paper_twice best ≡ twice_at text at
+  pub asked_done : prefixes ≤ low → best ≡ twice_at text at
   asked_done h = v.so_far ∙ first_all (from_up_to 0 low) (λ p k. rw (le-leb 0 p (omega arith), lt-ltb p low (omega arith))) text at

@@ -5,16 +5,10 @@ use Rattle.std.specs.Prelude.{Option, None, Some}
 use Rattle.codes.specs.Places.{places_end}
 use Rattle.codes.specs.Block.{Stretch, stretch_of, covered_before}
 use Rattle.codes.specs.Cursor.{step_at}
-use Rattle.codes.specs.declared.Last.TheVariants as last
 use Rattle.codes.specs.declared.Cursor.{Cursor}
 use Rattle.codes.specs.declared.Step.TheVariants.{Covers, Purge, Wrong}
-use Rattle.repeats.specs.declared.Twice.{Twice}
-use Rattle.repeats.specs.declared.Twice.TheVariants.{At, Nothing}
 
 -- the place of an element, if there is one
-abbrev pub paper_twice : Twice → Option ℕ
-paper_twice (At place) = Some place
-paper_twice Nothing = None
 
 -- the one that comes first in the text
 abbrev pub earlier : Option ℕ → Option ℕ → Option ℕ
@@ -38,7 +32,7 @@ stretch x = stretch_of x.prefix x.first x.last
 
 -- the reading place behind an element under the prefix p
 abbrev pub cursor_behind : ℕ → Cursor → Cursor
-cursor_behind p next = record { at = next.at; last = last.Prefix p }
+cursor_behind p next = record { at = next.at; last = Some p }
 
 -- from a reading place on, so many at most
 unfoldable pub coverings_from : ℕ → List ℕ → Cursor → List Covering
@@ -52,7 +46,7 @@ coverings_from (suc k) text c =
 
 -- of the block that starts at a place of the text: it has no more elements than bytes
 abbrev pub coverings : List ℕ → ℕ → List Covering
-coverings text at = coverings_from (length text) text (record { at = at; last = last.Nothing })
+coverings text at = coverings_from (length text) text (record { at = at; last = None })
 
 -- ---- a block whose elements run one way: up the places, or down
 pub data Way : Type 0 where

@@ -8,16 +8,9 @@ ghost use Rattle.codes.specs.Places.{prefixes};
 ghost use Rattle.codes.specs.Serving.{Low};
 ghost use Rattle.codes.specs.Block.{twice_at};
 ghost use Rattle.repeats.specs.Marks.{window, window_words, from_up_to, Mask, Claims, Noted};
-ghost use Rattle.repeats.specs.Passes.{paper_twice, earlier, nearest, coverings, rising, falling, first_twice};
+ghost use Rattle.repeats.specs.Passes.{earlier, nearest, coverings, rising, falling, first_twice};
 
-use codes::{Cursor, Last, Step};
-
-// The place of an element that covers a place already covered.
-#[derive(Clone, Copy)]
-pub enum Twice {
-    At(usize),
-    Nothing,
-}
+use codes::{Cursor, Step};
 
 // Whether every element starts behind the end of all before it, whether every one ends before the start of all before it, and the lowest
 // prefix, or PAST.
@@ -31,7 +24,7 @@ struct Outline {
 // What is found in a window, and the prefix from which the next one starts, or PAST.
 #[derive(Clone, Copy)]
 struct Pass {
-    found: Twice,
+    found: Option<usize>,
     next: usize,
 }
 
@@ -133,14 +126,14 @@ fn nearer(next: usize, end: usize, prefix: usize) -> usize
 // between the window and `next`.
 fn twice_under(text: &[u8], at: usize, low: usize) -> Pass
     requires { low ≤ prefixes }
-    ensures is { paper_twice result.found ≡ first_twice (from_up_to low result.next) [] (coverings text.now at) }
+    ensures is { result.found ≡ first_twice (from_up_to low result.next) [] (coverings text.now at) }
     ensures more { low + window ≤ result.next }
 {
     let end = low + WINDOW;
     let mut next = PAST;
     let mut cursor = Cursor {
         at,
-        last: Last::Nothing,
+        last: None,
     };
     let mut marks: [u64; WORDS] = [0; WORDS];
     loop {
@@ -150,22 +143,22 @@ fn twice_under(text: &[u8], at: usize, low: usize) -> Pass
             Step::Covers(prefix, first, last, after) => {
                 cursor = Cursor {
                     at: after.at,
-                    last: Last::Prefix(prefix),
+                    last: Some(prefix),
                 };
                 let hit = note(&mut marks, low, prefix, first, last);
                 if hit {
                     // The elements behind it are not read: their prefixes are left to the windows that follow.
-                    let found = Twice::At(here);
+                    let found = Some(here);
                     return Pass { found, next: end };
                 }
                 next = nearer(next, end, prefix);
             }
             Step::Purge(_, _) => {
-                let found = Twice::Nothing;
+                let found = None;
                 return Pass { found, next };
             }
             Step::Wrong(_) => {
-                let found = Twice::Nothing;
+                let found = None;
                 return Pass { found, next };
             }
         }
@@ -173,13 +166,13 @@ fn twice_under(text: &[u8], at: usize, low: usize) -> Pass
 }
 
 // The one that comes first in the text.
-fn first_of(a: Twice, b: Twice) -> Twice
-    ensures { paper_twice result ≡ earlier (paper_twice a) (paper_twice b) }
+fn first_of(a: Option<usize>, b: Option<usize>) -> Option<usize>
+    ensures { result ≡ earlier a b }
 {
-    let Twice::At(x) = a else {
+    let Some(x) = a else {
         return b;
     };
-    let Twice::At(y) = b else {
+    let Some(y) = b else {
         return a;
     };
     if x <= y { a } else { b }
@@ -201,7 +194,7 @@ fn survey(text: &[u8], at: usize) -> Outline
     let mut low = PLACES_END;
     let mut cursor = Cursor {
         at,
-        last: Last::Nothing,
+        last: None,
     };
     loop {
         let step = cursor.step(text);
@@ -209,7 +202,7 @@ fn survey(text: &[u8], at: usize) -> Outline
             Step::Covers(prefix, first, last, after) => {
                 cursor = Cursor {
                     at: after.at,
-                    last: Last::Prefix(prefix),
+                    last: Some(prefix),
                 };
                 let base = prefix * PLACES;
                 let from = base + first;
@@ -232,14 +225,14 @@ fn survey(text: &[u8], at: usize) -> Outline
 
 // The first element of the block at a place of the text that covers a place already covered. Most blocks rise, and some
 // fall: they repeat nothing. Any other is read once for each window that has elements.
-pub fn first_twice(text: &[u8], at: usize) -> Twice
-    ensures { paper_twice result ≡ twice_at text.now at }
+pub fn first_twice(text: &[u8], at: usize) -> Option<usize>
+    ensures { result ≡ twice_at text.now at }
 {
     let outline = survey(text, at);
     if outline.rises | outline.falls {
-        return Twice::Nothing;
+        return None;
     }
-    let mut best = Twice::Nothing;
+    let mut best = None;
     let mut low = outline.lowest;
     while low < PREFIXES {
         let pass = twice_under(text, at, low);

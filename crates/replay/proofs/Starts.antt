@@ -4,7 +4,7 @@ use native.Mathlib.Omega.{arith}
 use mathlib.Core.Path.{◌≡◌, refl, sym, ap, ◌∙◌}
 use mathlib.Core.List.{List, [], ◌∷◌, ◌++◌}
 use mathlib.Core.Bool.{cond, ◌&&◌, and-false}
-use Rattle.std.specs.Prelude.{None, Some}
+use Rattle.std.specs.Prelude.{Option, None, Some, option_map}
 use lib.ListN.{length, get_or, take, drop, length-drop, get_or-eq_default}
 use lib.Seq.{drop-drop, get_or-drop, take_all}
 use lib.Dec.{eqb}
@@ -14,14 +14,10 @@ use Rattle.lines.specs.Bytes.{digit, word, begins}
 use Rattle.lines.specs.Spans.{part}
 use Rattle.heading.specs.Heading.{times}
 use Rattle.printing.specs.Asked.{asked_of}
-use Rattle.printing.specs.Paper.{paper_asked}
-use Rattle.printing.specs.declared.Asked.{Asked}
-use Rattle.printing.specs.declared.Asked.TheVariants as asked
-use Rattle.replay.specs.Lines.{decimal, length_line, case_of, digits_in_front, number_from, paper_opening, lines_within}
+use Rattle.printing.specs.declared.YearMonth.{YearMonth}
+use Rattle.replay.specs.Lines.{decimal, length_line, case_of, digits_in_front, number_from, paper_source, lines_within}
 use Rattle.replay.specs.declared.Number.{Number}
-use Rattle.replay.specs.declared.Opening.{Opening}
 use Rattle.replay.specs.declared.Source.{Source}
-use Rattle.replay.specs.declared.Opening.TheVariants.{Case, Wrong}
 
 eqb_suc : (m n : ℕ) → eqb (suc m) (suc n) ≡ eqb m n
 eqb_suc m n = by (eqb m n) (λ p. rw p (eq-eqb (suc m) (suc n) (ap suc (eqb-true m n p)))) (λ p. rw p (ne_eqb (suc m) (suc n) (λ e. eqb-false m n p (omega arith))))
@@ -47,17 +43,17 @@ pub record Head (s : List ℕ) (at : ℕ) (h : List ℕ) : Type 0 where
 pub head_is : (s : List ℕ) (at : ℕ) → at ≤ length s → Head s at (take (length s - at) (drop at s))
 head_is s at l = record { low = l; is = take_all (length s - at) (drop at s) (rw (length-drop at s) (omega arith)) }
 
-module _ (s : List ℕ) (at : ℕ) (h : List ℕ) (v : Head s at h) (a : Asked) (ea : paper_asked a ≡ asked_of h) where
-  pub start_unasked : a ≡ asked.Wrong → paper_opening s Wrong ≡ case_of (drop at s)
+module _ (s : List ℕ) (at : ℕ) (h : List ℕ) (v : Head s at h) (a : Option YearMonth) (ea : a ≡ asked_of h) where
+  pub start_unasked : a ≡ None → option_map (paper_source s) None ≡ case_of (drop at s)
   unfolding case_of
   start_unasked e = rw (← v.is, ← ea, e)
 
-  module _ (year month : ℕ) (e : a ≡ asked.Month year month) where
-    wrong : length_line (drop 8 h) ≡ None → paper_opening s Wrong ≡ case_of (drop at s)
+  module _ (t : YearMonth) (e : a ≡ Some t) where
+    wrong : length_line (drop 8 h) ≡ None → option_map (paper_source s) None ≡ case_of (drop at s)
     unfolding case_of
     wrong z = rw (← v.is, ← ea, e, z)
 
-    pub start_short : length h < 14 → paper_opening s Wrong ≡ case_of (drop at s)
+    pub start_short : length h < 14 → option_map (paper_source s) None ≡ case_of (drop at s)
     start_short l = let g : get_or h 13 0 ≡ 0 = get_or-eq_default h 0 (omega arith) in wrong (length_is (drop 8 h) ∙ rw (get_or-drop 8 h 5 0, g, and-false))
 
     module _ (n : Number) (en : n ≡ number_from h 8) where
@@ -67,14 +63,14 @@ module _ (s : List ℕ) (at : ℕ) (h : List ℕ) (v : Head s at h) (a : Asked) 
       value : n.value ≡ decimal 0 (take (digits_in_front 10 (drop 8 h)) (drop 8 h))
       value = ap (λ (x : Number). x.value) en
 
-      pub start_other : (n.end ≡ 13 → ⊥) → paper_opening s Wrong ≡ case_of (drop at s)
+      pub start_other : (n.end ≡ 13 → ⊥) → option_map (paper_source s) None ≡ case_of (drop at s)
       start_other k = wrong (length_is (drop 8 h) ∙ rw (ne_eqb (digits_in_front 10 (drop 8 h)) 5 (λ z. k (omega (arith, ends)))))
 
       module _ (k : n.end ≡ 13) where
         five : digits_in_front 10 (drop 8 h) ≡ 5
         five = omega (arith, ends)
 
-        pub start_unended : (get_or h 13 0 ≡ 10 → ⊥) → paper_opening s Wrong ≡ case_of (drop at s)
+        pub start_unended : (get_or h 13 0 ≡ 10 → ⊥) → option_map (paper_source s) None ≡ case_of (drop at s)
         start_unended z = wrong (length_is (drop 8 h) ∙ rw (get_or-drop 8 h 5 0, ne_eqb (get_or h 13 0) 10 z, and-false))
 
         module _ (z : get_or h 13 0 ≡ 10) where
@@ -85,12 +81,12 @@ module _ (s : List ℕ) (at : ℕ) (h : List ℕ) (v : Head s at h) (a : Asked) 
               at_five : n.value ≡ decimal 0 (take 5 (drop 8 h))
               at_five = value ∙ rw five
 
-          pub start_few : length h - 14 < n.value → paper_opening s Wrong ≡ case_of (drop at s)
+          pub start_few : length h - 14 < n.value → option_map (paper_source s) None ≡ case_of (drop at s)
           unfolding case_of
           start_few l = rw (← v.is, ← ea, e, told, length-drop 14 h, lt-leb n.value (length h - 14) l)
 
           pub start_case : n.value ≤ length h - 14
-              → paper_opening s (Case (record { year = year; month = month; start = at + 14; end = at + 14 + n.value })) ≡ case_of (drop at s)
+              → option_map (paper_source s) (Some (record { year = t.year; month = t.month; start = at + 14; end = at + 14 + n.value })) ≡ case_of (drop at s)
           unfolding case_of
           start_case l = rw (text, more, ← v.is, ← ea, e, told, length-drop 14 h, le-leb n.value (length h - 14) l)
             where
@@ -108,8 +104,8 @@ pub start_end_lem : (s : List ℕ) (at : ℕ) (h : List ℕ) → Head s at h →
 start_end_lem s at h v l n k = let e : length h ≡ length s - at = rw v.is (length-drop at s) in omega (arith, v.low)
 
 -- a case that was found, and its call lines
-module _ (at n : ℕ) (o : Opening) (c : Source) (w : lines_within at n o) (e : o ≡ Case c) where
-  found : lines_within at n (Case c)
+module _ (at n : ℕ) (o : Option Source) (c : Source) (w : lines_within at n o) (e : o ≡ Some c) where
+  found : lines_within at n (Some c)
   found = rw e at w
 
   pub case_low : at < c.end

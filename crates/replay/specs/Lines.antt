@@ -1,5 +1,6 @@
 -- The input of the replay program: cases, each of two lines, a bulletin and call lines.
-use Rattle.std.specs.Prelude.{ℕ, zero, suc, ◌+◌, ◌-◌, ◌*◌, ◌%◌, ◌≤◌, ◌<◌, List, [], ◌∷◌, ◌++◌, Bool, cond, ◌&&◌, length, take, drop, eqb, leb, ltb}
+use Rattle.printing.specs.declared.YearMonth.{YearMonth}
+use Rattle.std.specs.Prelude.{IfSome, ℕ, zero, suc, ◌+◌, ◌-◌, ◌*◌, ◌%◌, ◌≤◌, ◌<◌, List, [], ◌∷◌, ◌++◌, Bool, cond, ◌&&◌, length, take, drop, eqb, leb, ltb}
 use Rattle.std.specs.Prelude.{Option, None, Some}
 use Rattle.laws.specs.Lists.{every}
 use Rattle.lines.specs.Bytes.{Kind, digit, word, begins}
@@ -7,12 +8,11 @@ use Rattle.lines.specs.Lines.{glue}
 use Rattle.lines.specs.Spans.{part}
 use Rattle.checks.specs.Seal.{sum_to}
 use Rattle.heading.specs.Heading.{times}
-use Rattle.printing.specs.Asked.{YearMonth, asked_of}
+use Rattle.printing.specs.Asked.{asked_of}
 use Rattle.replay.specs.declared.Number.{Number}
 use Rattle.replay.specs.declared.Line.{Line}
 use Rattle.replay.specs.declared.Progress.{Progress}
-use Rattle.replay.specs.declared.Opening.{Opening}
-use Rattle.replay.specs.declared.Opening.TheVariants.{Case, Wrong}
+use Rattle.replay.specs.declared.Source.{Source}
 
 -- ---- numbers: "Numbers are unsigned decimal, 1 to 10 digits, single spaces between."
 abbrev pub most_digits : ℕ
@@ -160,14 +160,12 @@ number_from s from =
 abbrev pub paper_line : Line → Option CallLine
 paper_line l = cond l.known (Some (record { kind = l.kind; numbers = take l.count l.numbers })) None
 
-abbrev pub paper_opening : List ℕ → Opening → Option Start
-paper_opening s (Case c) = Some (record { year = c.year; month = c.month; bulletin = part s c.start c.end; rest = drop c.end s })
-paper_opening s Wrong = None
+abbrev pub paper_source : List ℕ → Source → Start
+paper_source s c = record { year = c.year; month = c.month; bulletin = part s c.start c.end; rest = drop c.end s }
 
 -- the case's call lines start behind `at`, and not behind the input's end
-abbrev pub lines_within : ℕ → ℕ → Opening → Type 0
-lines_within at n (Case c) = (at < c.end) × (c.end ≤ n)
-lines_within at n Wrong = Unit {0}
+abbrev pub lines_within : ℕ → ℕ → Option Source → Type 0
+lines_within at n o = IfSome o (λ c. (at < c.end) × (c.end ≤ n))
 
 abbrev pub paper_progress : List ℕ → Progress → Standing
 paper_progress s p = record { text = part s p.start p.end; rest = drop p.next s }

@@ -1,15 +1,14 @@
 // The replay program: bulletins, and after each a list of calls on its book; it prints a line for each.
 #![tactic(auto)]
 
-ghost use Rattle.std.specs.Prelude.{◌≡◌, false, cond, ◌+◌, ◌*◌, ◌≤◌, ◌<◌, length, get_or, drop, IfOk};
+ghost use Rattle.std.specs.Prelude.{◌≡◌, option_map, false, cond, ◌+◌, ◌*◌, ◌≤◌, ◌<◌, length, get_or, drop, IfOk};
 ghost use Rattle.std.specs.Prelude.{None, Some};
 ghost use Rattle.lines.specs.Bytes.{lf};
-ghost use Rattle.replay.specs.Lines.{call_line, line_up_to, case_of, number_from, paper_line, paper_opening, lines_within};
+ghost use Rattle.replay.specs.Lines.{call_line, line_up_to, case_of, number_from, paper_line, paper_source, lines_within};
 ghost use Rattle.replay.specs.Lines.{weighted_sum, text_asked, replaced, after_line, paper_progress, Onward};
 
 use calendar::Stamp;
 use layout::{Changed, Reply};
-use printing::Asked;
 use refusal::{Refusal, Verdict};
 use std::io;
 use std::io::Write;
@@ -140,39 +139,31 @@ struct Source {
     end: usize,
 }
 
-#[derive(Clone, Copy)]
-enum Opening {
-    Case(Source),
-    Wrong,
-}
-
 // A case's first two lines: the time, and the bulletin's length as five digits.
-fn read_opening(input: &[u8], at: usize) -> Opening
+fn read_opening(input: &[u8], at: usize) -> Option<Source>
     requires { at ≤ length input.now }
-    ensures is { paper_opening input.now result ≡ case_of (drop at input.now) }
+    ensures is { option_map (paper_source input.now) result ≡ case_of (drop at input.now) }
     ensures ends { lines_within at (length input.now) result }
 {
     let head = &input[at..];
-    let Asked::Month(year, month) = printing::read_asked(head) else {
-        return Opening::Wrong;
-    };
+    let time = printing::read_asked(head)?;
     let room = head.len();
     if room < 14 {
-        return Opening::Wrong;
+        return None;
     }
     let n = read_number(head, 8);
     if n.end != 13 {
-        return Opening::Wrong;
+        return None;
     }
     if head[13] != 10 {
-        return Opening::Wrong;
+        return None;
     }
     if room - 14 < n.value {
-        return Opening::Wrong;
+        return None;
     }
-    Opening::Case(Source {
-        year,
-        month,
+    Some(Source {
+        year: time.year,
+        month: time.month,
         start: at + 14,
         end: at + 14 + n.value,
     })
@@ -613,7 +604,7 @@ fn run<W: Write>(to: &mut W, input: &[u8], source: Source) -> io::Result<usize>
 fn run_all<W: Write>(to: &mut W, input: &[u8]) -> io::Result<()> {
     let mut at = 0;
     loop {
-        let Opening::Case(source) = read_opening(input, at) else {
+        let Some(source) = read_opening(input, at) else {
             return refuse(to, refusal::OUT_OF_RANGE);
         };
         at = run(to, input, source)?;

@@ -1,4 +1,5 @@
 -- The search for a line that opens a block, byte by byte. Assumes nothing.
+use Rattle.std.specs.Prelude.{Option, Some}
 use Prim.Native.Nat.{ℕ, zero, suc, ◌+◌, ◌-◌, ◌≤◌, ◌<◌}
 use native.Mathlib.Nat.{add-zero}
 use native.Mathlib.Numerals.{add-one}
@@ -13,13 +14,10 @@ use Rattle.laws.proofs.Tests.{by, apart, and_left, and_right}
 use Rattle.lines.specs.Bytes.{capital, digit}
 use Rattle.lines.specs.Lines.{opens}
 use Rattle.lines.proofs.Tests.{opens_by}
-use Rattle.lines.specs.Spans.{span_at, paper_lined, part}
+use Rattle.lines.specs.Spans.{span_at, part}
 use Rattle.lines.specs.declared.Span.{Span}
-use Rattle.lines.specs.declared.Lined.{Lined}
-use Rattle.lines.specs.declared.Lined.TheVariants as lined
 use Rattle.segments.specs.Search.{from_first}
 use Rattle.segments.specs.Searching.{may_open, may_open_to, lines_on, found_lines, Inside}
-use Rattle.segments.specs.declared.Found.TheVariants as found
 use Rattle.segments.proofs.Seeking.{Seeks, seeks_here, seeks_in, seeks_on, seeks_less}
 
 -- ---- seven bytes, each of which may stand where it does
@@ -109,16 +107,16 @@ module _ (s : List ℕ) (k b : ℕ) (eb : b ≡ get_or s k 0) where
         may_last l = rw (le-ltb k 2 h, ne_eqb k 2 n, ne_eqb k 3 m, le-ltb k 6 l, ← eb)
 
 -- ---- the search over lines, left by the inner one
-module _ (s : List ℕ) (from at : ℕ) (v : Seeks opens s from at) (f : Lined) (e : paper_lined f ≡ span_at s at) (l : Span) (z : f ≡ lined.Line l) (line : List ℕ) (el : line ≡ part s at l.end) where
+module _ (s : List ℕ) (from at : ℕ) (v : Seeks opens s from at) (f : Option Span) (e : f ≡ span_at s at) (l : Span) (z : f ≡ Some l) (line : List ℕ) (el : line ≡ part s at l.end) where
   pub opening_less : length s - l.next < length s - at
   opening_less = seeks_less opens s from at v f e l z line el (opens line) refl
 
-  pub opening_in : Inside s from (found.Line l)
+  pub opening_in : Inside s from (Some l)
   opening_in = seeks_in opens s from at v f e l z line el (opens line) refl
 
   module _ (k : ℕ) (w : Fitting line k) (t : Bool) (et : t ≡ may_open line k) where
     pub opening_on : t ≡ false → Seeks opens s from l.next
     opening_on n = seeks_on opens s from at v f e l z line el (opens line) refl (sym (fitting_none line k w t et n))
 
-    pub opening_here : t ≡ true → k + 1 ≡ 7 → found_lines s (found.Line l) ≡ from_first opens (lines_on s from)
+    pub opening_here : t ≡ true → k + 1 ≡ 7 → found_lines s (Some l) ≡ from_first opens (lines_on s from)
     opening_here y q = seeks_here opens s from at v f e l z line el (opens line) refl (sym (fitting_all line k w t et y q))

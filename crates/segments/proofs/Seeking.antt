@@ -1,4 +1,5 @@
 -- The search over lines: the lines from the first that passes a test, seen from a place of the text. Assumes nothing.
+use Rattle.std.specs.Prelude.{Option, None, Some}
 use Prim.Native.Nat.{ℕ, ◌-◌, ◌≤◌, ◌<◌}
 use native.Mathlib.Omega.{arith}
 use mathlib.Core.Path.{◌≡◌, refl, sym, ap, ◌∙◌}
@@ -6,31 +7,27 @@ use mathlib.Core.List.{List}
 use mathlib.Core.Bool.{Bool, true, false, cond, ◌||◌}
 use lib.ListN.{length}
 use Rattle.laws.proofs.Tests.{by_order}
-use Rattle.lines.specs.Spans.{span_at, paper_lined, part}
+use Rattle.lines.specs.Spans.{span_at, part}
 use Rattle.lines.specs.declared.Span.{Span}
-use Rattle.lines.specs.declared.Lined.{Lined}
-use Rattle.lines.specs.declared.Lined.TheVariants as lined
 use Rattle.lines.proofs.Ends.{next_of, next_within, next_more, next_last, part_body, line_at, lines_step, lines_last, span_here, span_none, found_none, found_here, found_start, found_again, found_end, found_next, span_inside, span_next}
 use Rattle.segments.specs.Search.{from_first, after_first, closes}
 use Rattle.segments.specs.Searching.{test_of, lines_on, found_lines, LineFrom, Inside, next_in}
 use Rattle.heading.specs.Storm.{is_office}
 use Rattle.segments.specs.declared.Sought.{Sought}
 use Rattle.segments.specs.declared.Sought.TheVariants.{OfficeOrClose}
-use Rattle.segments.specs.declared.Found.{Found}
-use Rattle.segments.specs.declared.Found.TheVariants as found
 
 -- the place after a line
 pub next_is : (s : List ℕ) (at : ℕ) → next_in at (span_at s at) ≡ next_of s at
 next_is s at = by_order at (length s) (λ h. rw (span_here s at h)) (λ h. rw (span_none s at h, next_last s at h))
 
-pub after_is : (s : List ℕ) (at : ℕ) (f : Lined) → paper_lined f ≡ span_at s at → (l : Span) → f ≡ lined.Line l → l.next ≡ next_in at (span_at s at)
+pub after_is : (s : List ℕ) (at : ℕ) (f : Option Span) → f ≡ span_at s at → (l : Span) → f ≡ Some l → l.next ≡ next_in at (span_at s at)
 after_is s at f e l q = found_next s at f e l q ∙ sym (next_is s at)
 
-pub after_gone : (s : List ℕ) (at : ℕ) (f : Lined) → paper_lined f ≡ span_at s at → f ≡ lined.Nothing → at ≡ next_in at (span_at s at)
+pub after_gone : (s : List ℕ) (at : ℕ) (f : Option Span) → f ≡ span_at s at → f ≡ None → at ≡ next_in at (span_at s at)
 after_gone s at f e q = sym (next_is s at ∙ next_last s at (found_none s at f e q))
 
 -- the bytes of a line that was found
-pub body_of : (s : List ℕ) (at : ℕ) (f : Lined) → paper_lined f ≡ span_at s at → (l : Span) → f ≡ lined.Line l → (line : List ℕ) → line ≡ part s at l.end → line ≡ (line_at s at).body
+pub body_of : (s : List ℕ) (at : ℕ) (f : Option Span) → f ≡ span_at s at → (l : Span) → f ≡ Some l → (line : List ℕ) → line ≡ part s at l.end → line ≡ (line_at s at).body
 body_of s at f e l p line q = q ∙ ap (part s at) (found_end s at f e l p) ∙ part_body s at
 
 -- the lines from here on have the answer of the lines from the start on
@@ -42,11 +39,11 @@ pub seeks_start : (p : List ℕ → Bool) (s : List ℕ) (from : ℕ) → Seeks 
 seeks_start p s from = record { low = omega arith; same = refl }
 
 module _ (p : List ℕ → Bool) (s : List ℕ) (from at : ℕ) (v : Seeks p s from at) where
-  pub seeks_none : (f : Lined) → paper_lined f ≡ span_at s at → f ≡ lined.Nothing → found_lines s found.Nothing ≡ from_first p (lines_on s from)
+  pub seeks_none : (f : Option Span) → f ≡ span_at s at → f ≡ None → found_lines s None ≡ from_first p (lines_on s from)
   unfolding from_first
   seeks_none f e q = sym (v.same ∙ ap (from_first p) (lines_last s at (found_none s at f e q)))
 
-  module _ (f : Lined) (e : paper_lined f ≡ span_at s at) (l : Span) (z : f ≡ lined.Line l) (line : List ℕ) (el : line ≡ part s at l.end) (t : Bool) (et : t ≡ p line) where
+  module _ (f : Option Span) (e : f ≡ span_at s at) (l : Span) (z : f ≡ Some l) (line : List ℕ) (el : line ≡ part s at l.end) (t : Bool) (et : t ≡ p line) where
     h : at < length s
     h = found_here s at f e l z
 
@@ -56,10 +53,10 @@ module _ (p : List ℕ → Bool) (s : List ℕ) (from at : ℕ) (v : Seeks p s f
         let q : p (line_at s at).body ≡ t = ap p (sym (body_of s at f e l z line el)) ∙ sym et in
         ap (from_first p) (lines_step s at h) ∙ rw (q, found_next s at f e l z, ← lines_step s at h)
 
-    pub seeks_here : t ≡ true → found_lines s (found.Line l) ≡ from_first p (lines_on s from)
+    pub seeks_here : t ≡ true → found_lines s (Some l) ≡ from_first p (lines_on s from)
     seeks_here y = ap (lines_on s) (found_start s at f e l z) ∙ sym (v.same ∙ step ∙ rw y)
 
-    pub seeks_in : Inside s from (found.Line l)
+    pub seeks_in : Inside s from (Some l)
     seeks_in = record { low = omega (arith, v.low, found_start s at f e l z); is = found_again s at f e l z }
 
     pub seeks_on : t ≡ false → Seeks p s from l.next
@@ -76,11 +73,11 @@ pub sought_both : (k : Sought) (line : List ℕ) (a b : Bool) → k ≡ OfficeOr
 sought_both k line a b e p q = rw (e, p, q)
 
 -- ---- the lines after the first that is sought
-module _ (p : List ℕ → Bool) (s : List ℕ) (from : ℕ) (f : Found) (ef : found_lines s f ≡ from_first p (lines_on s from)) where
-  pub after_none : f ≡ found.Nothing → lines_on s (length s) ≡ after_first p (lines_on s from)
+module _ (p : List ℕ → Bool) (s : List ℕ) (from : ℕ) (f : Option Span) (ef : found_lines s f ≡ from_first p (lines_on s from)) where
+  pub after_none : f ≡ None → lines_on s (length s) ≡ after_first p (lines_on s from)
   after_none q = lines_last s (length s) (omega arith) ∙ rw (← ef, q)
 
-  pub after_line_lem : Inside s from f → (l : Span) → f ≡ found.Line l → lines_on s l.next ≡ after_first p (lines_on s from)
+  pub after_line_lem : Inside s from f → (l : Span) → f ≡ Some l → lines_on s l.next ≡ after_first p (lines_on s from)
   after_line_lem i l q =
       let v : LineFrom s from l = rw q at i in
       rw (span_next s l v.is, ← ef, q, lines_step s l.start (span_inside s l v.is))

@@ -5,7 +5,7 @@ use native.Mathlib.Numerals.{add-one}
 use native.Mathlib.Omega.{arith}
 use mathlib.Core.Path.{◌≡◌, refl, sym, ap, ap₂, ◌∙◌}
 use mathlib.Core.List.{List, [], ◌∷◌, ◌++◌, append_assoc, append-nil}
-use Rattle.std.specs.Prelude.{Some}
+use Rattle.std.specs.Prelude.{Option, None, Some}
 use lib.ListN.{length, take, drop, set, length-set, take-append-drop}
 use lib.Seq.{length-take-le, take-suc-set, drop-drop}
 use Rattle.laws.proofs.Tests.{apart}
@@ -32,8 +32,6 @@ use Rattle.segments.specs.Seen.{unread, segments_for, segments_held, Few, Sized}
 use Rattle.segments.specs.Listing.{seen_of, seen_from, seen_before, then_seen, Begun, Stepped, paper_listed}
 use Rattle.segments.specs.KeptAt.{keep_each}
 use Rattle.segments.specs.KeptBy.{places_at, kept_by, kept_from}
-use Rattle.segments.specs.declared.Found.{Found}
-use Rattle.segments.specs.declared.Found.TheVariants as found
 use Rattle.segments.specs.declared.Segment.{Segment}
 use Rattle.segments.specs.declared.Segments.{Segments}
 use Rattle.segments.specs.declared.Next.{Next}
@@ -63,7 +61,7 @@ module _ (s : List ℕ) (issue : ℕ) (o : Span) (eo : span_at s o.start ≡ Som
   unfolding and_then
   begun_refused r y = record { same = λ n. opened_is n ∙ rw (refused_back (placed_at s issue a) c ec r y); few = λ g h. apart cc }
 
-  module _ (t at : ℕ) (y : c.purge ≡ purge.At t at) (d : ℕ) (ed : d ≡ next_in at (span_at s at)) (f : Found) (e : found_lines s f ≡ from_first is_end (lines_on s d)) where
+  module _ (t at : ℕ) (y : c.purge ≡ purge.At t at) (d : ℕ) (ed : d ≡ next_in at (span_at s at)) (f : Option Span) (e : found_lines s f ≡ from_first is_end (lines_on s d)) where
     abbrev here : Placed
     here = record { content = record { purge = t; places = places_in c.places }; at = at }
 
@@ -81,10 +79,10 @@ module _ (s : List ℕ) (issue : ℕ) (o : Span) (eo : span_at s o.start ≡ Som
     unfolding and_then
     runs_is n = opened_is n ∙ rw (placed_is, end_is)
 
-    pub begun_endless : f ≡ found.Nothing → (r : Next) → r ≡ next.Refused (refusal_for no_end a) → Begun s issue a r
+    pub begun_endless : f ≡ None → (r : Next) → r ≡ next.Refused (refusal_for no_end a) → Begun s issue a r
     begun_endless z r w = record { same = λ n. runs_is n ∙ rw (z, w); few = λ g h. let v : next.Refused (refusal_for no_end a) ≡ next.One g = sym w ∙ h in apart cc }
 
-    module _ (g : Good c.places) (i : Inside s d f) (b : Span) (z : f ≡ found.Line b) where
+    module _ (g : Good c.places) (i : Inside s d f) (b : Span) (z : f ≡ Some b) where
       end_line : LineFrom s d b
       end_line = rw z at i
 
@@ -119,17 +117,17 @@ module _ (s : List ℕ) (issue : ℕ) (o : Span) (eo : span_at s o.start ≡ Som
           }
 
 -- ---- the next segment from a place on
-module _ (s : List ℕ) (issue left from : ℕ) (f : Found) (ef : found_lines s f ≡ from_first opens (lines_on s from)) where
+module _ (s : List ℕ) (issue left from : ℕ) (f : Option Span) (ef : found_lines s f ≡ from_first opens (lines_on s from)) where
   -- no line opens a segment
-  none_left : (n : ℕ) → f ≡ found.Nothing → seen_from n s issue from ≡ ok []
+  none_left : (n : ℕ) → f ≡ None → seen_from n s issue from ≡ ok []
   unfolding segments_from
   none_left zero q = rw (← ef, q)
   none_left (suc n) q = rw (← ef, q)
 
-  pub step_nothing : f ≡ found.Nothing → Stepped s issue left from next.Nothing
+  pub step_nothing : f ≡ None → Stepped s issue left from next.Nothing
   step_nothing q = record { same = none_left left q; room = λ g e. apart cc; few = λ g e. apart cc }
 
-  module _ (i : Inside s from f) (o : Span) (q : f ≡ found.Line o) where
+  module _ (i : Inside s from f) (o : Span) (q : f ≡ Some o) where
     pub step_line : span_at s o.start ≡ Some o
     step_line = let v : LineFrom s from o = rw q at i in v.is
 

@@ -10,8 +10,6 @@ use Rattle.heading.specs.Storm.{is_office}
 use Rattle.segments.specs.Search.{closes}
 use Rattle.segments.specs.declared.Sought.{Sought}
 use Rattle.segments.specs.declared.Sought.TheVariants.{End, Blank, Close, OfficeOrClose}
-use Rattle.segments.specs.declared.Found.{Found}
-use Rattle.segments.specs.declared.Found.TheVariants.{Line, Nothing}
 
 abbrev pub office_or_close : List ℕ → Bool
 office_or_close s = closes s || is_office s
@@ -40,9 +38,9 @@ may_open_to s (suc k) = may_open_to s k && may_open s k
 abbrev pub lines_on : List ℕ → ℕ → List lines.Line
 lines_on text at = lines_from at (drop at text)
 
-abbrev pub found_lines : List ℕ → Found → List lines.Line
-found_lines text Nothing = []
-found_lines text (Line l) = lines_on text l.start
+abbrev pub found_lines : List ℕ → Option Span → List lines.Line
+found_lines text None = []
+found_lines text (Some l) = lines_on text l.start
 
 -- the place after the line that starts at `at`; `at` itself, where none does
 abbrev pub next_in : ℕ → Option Span → ℕ
@@ -54,6 +52,6 @@ pub record LineFrom (text : List ℕ) (from : ℕ) (l : Span) : Type 0 where
   pub low : from ≤ l.start
   pub is : span_at text l.start ≡ Some l
 
-abbrev pub Inside : List ℕ → ℕ → Found → Type 0
-Inside text from Nothing = Unit {0}
-Inside text from (Line l) = LineFrom text from l
+abbrev pub Inside : List ℕ → ℕ → Option Span → Type 0
+Inside text from None = Unit {0}
+Inside text from (Some l) = LineFrom text from l

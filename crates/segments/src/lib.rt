@@ -14,16 +14,9 @@ ghost use Rattle.segments.specs.Seen.{unread, segments_for, segments_held, Sized
 ghost use Rattle.segments.specs.Listing.{Begun, Stepped, seen_from, paper_listed};
 ghost use Rattle.segments.specs.KeptBy.{kept_by, kept_from, handed_on};
 
-use lines::{End, Lined, Span};
+use lines::{End, Span};
 use reading::Purge;
 use refusal::Refusal;
-
-// A line, or none.
-#[derive(Clone, Copy)]
-pub enum Found {
-    Line(Span),
-    Nothing,
-}
 
 // What a search over lines looks for.
 #[derive(Clone, Copy)]
@@ -53,18 +46,18 @@ pub fn closes(line: &[u8]) -> bool
 }
 
 // The first line from `from` on, where a line starts, that is what is sought.
-pub fn first(text: &[u8], from: usize, sought: Sought) -> Found
+pub fn first(text: &[u8], from: usize, sought: Sought) -> Option<Span>
     ensures is { found_lines text.now result ≡ from_first (test_of sought) (lines_on text.now from) }
     ensures inside { Inside text.now from result }
 {
     let mut at = from;
     let found = 'search: loop {
-        let Lined::Line(l) = lines::find_line(text, at) else {
-            break 'search Found::Nothing;
+        let Some(l) = lines::find_line(text, at) else {
+            break 'search None;
         };
         let line = lines::part(text, at, l.end);
         if is_sought(line, sought) {
-            break 'search Found::Line(l);
+            break 'search Some(l);
         }
         at = l.next;
     };
@@ -93,21 +86,21 @@ fn may_open(line: &[u8], k: usize) -> bool
 }
 
 // The first line from `from` on, where a line starts, that opens a block. Most lines are left at their first or second byte.
-fn first_opening(text: &[u8], from: usize) -> Found
+fn first_opening(text: &[u8], from: usize) -> Option<Span>
     ensures is { found_lines text.now result ≡ from_first opens (lines_on text.now from) }
     ensures inside { Inside text.now from result }
 {
     let mut at = from;
     let found = 'search: loop {
-        let Lined::Line(l) = lines::find_line(text, at) else {
-            break 'search Found::Nothing;
+        let Some(l) = lines::find_line(text, at) else {
+            break 'search None;
         };
         let line = lines::part(text, at, l.end);
         let mut k: usize = 0;
         while may_open(line, k) {
             k += 1;
             if k == 7 {
-                break 'search Found::Line(l);
+                break 'search Some(l);
             }
         }
         at = l.next;
@@ -119,7 +112,7 @@ fn first_opening(text: &[u8], from: usize) -> Found
 fn after_line(text: &[u8], at: usize) -> usize
     ensures { result ≡ next_in at (span_at text.now at) }
 {
-    let Lined::Line(l) = lines::find_line(text, at) else {
+    let Some(l) = lines::find_line(text, at) else {
         return at;
     };
     l.next
@@ -129,7 +122,7 @@ fn after_line(text: &[u8], at: usize) -> usize
 pub fn after_first(text: &[u8], from: usize, sought: Sought) -> usize
     ensures { lines_on text.now result ≡ after_first (test_of sought) (lines_on text.now from) }
 {
-    let Found::Line(l) = first(text, from, sought) else {
+    let Some(l) = first(text, from, sought) else {
         return text.len();
     };
     l.next
@@ -211,7 +204,7 @@ fn read_segment(text: &[u8], opening: Span, issue: usize, kept: &mut [u32], at: 
         Purge::Refused(r) => Next::Refused(r),
         Purge::At(minute, place) => {
             let block = after_line(text, place);
-            let Found::Line(end) = first(text, block, Sought::End) else {
+            let Some(end) = first(text, block, Sought::End) else {
                 return refused(refusal::NO_END, start);
             };
             let held = places.held;
@@ -241,7 +234,7 @@ fn next_segment(
     ensures is { Stepped text.now issue left from result }
     ensures kept { kept.new ≡ kept_by text.now issue at result kept.old }
 {
-    let Found::Line(opening) = first_opening(text, from) else {
+    let Some(opening) = first_opening(text, from) else {
         return Next::Nothing;
     };
     if left == 0 {

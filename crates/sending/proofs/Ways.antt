@@ -16,10 +16,7 @@ use Rattle.refusal.specs.Numbers.{wrong_length, wrong_time, not_sound, output_sh
 use Rattle.refusal.specs.Answer.{Answer, ok, no, refused, refusal_for, must, and_then}
 use Rattle.refusal.specs.declared.Refusal.{Refusal}
 use Rattle.calendar.specs.Calendar.{date_of}
-use Rattle.calendar.specs.Paper.{paper_dated}
 use Rattle.calendar.specs.declared.Date.{Date}
-use Rattle.calendar.specs.declared.Dated.{Dated}
-use Rattle.calendar.specs.declared.Dated.TheVariants as dated
 use Rattle.writing.specs.Write.{fitting, length_of, output_of, paper_written}
 use Rattle.writing.specs.declared.Written.{Written}
 use Rattle.writing.specs.declared.Written.TheVariants as written
@@ -55,8 +52,8 @@ pub room_all : (text l : List ℕ) (gs : Segments) → Belonging text l gs → (
 room_all text l gs v forms k = record { each = omega (arith, v.sized.few); most = omega arith }
 
 -- the date of a book's issue
-pub issue_on : (l : List ℕ) (n : ℕ) → n ≡ number_at l 0 → (x : Dated) → paper_dated x ≡ date_of n → (d : Date) → x ≡ dated.On d → IssueOn l n d
-issue_on l n is x e d q = record { is = is; on = ap paper_dated (sym q) ∙ e }
+pub issue_on : (l : List ℕ) (n : ℕ) → n ≡ number_at l 0 → (x : Option Date) → x ≡ date_of n → (d : Date) → x ≡ Some d → IssueOn l n d
+issue_on l n is x e d q = record { is = is; on = (sym q) ∙ e }
 
 module _ (text l before : List ℕ) where
   -- what the rule says gives the promise
@@ -117,11 +114,11 @@ module _ (text l before : List ℕ) where
         under : (o : Option Date) → o ≡ date_of n → read_under text (date_of (book_of l).issue) ≡ read_under text o
         under o e = ap (λ (k : ℕ). read_under text (date_of k)) (issue_is n is) ∙ ap (read_under text) (sym e)
 
-        module _ (x : Dated) (e : paper_dated x ≡ date_of n) where
-          pub edited_undated : x ≡ dated.Nothing → (r : Written) → r ≡ written.Refused (refusal_for wrong_time 0) → WritesEdited text l before before r
+        module _ (x : Option Date) (e : x ≡ date_of n) where
+          pub edited_undated : x ≡ None → (r : Written) → r ≡ written.Refused (refusal_for wrong_time 0) → WritesEdited text l before before r
           unfolding and_then
           edited_undated q r f =
-              ruled before r (refused wrong_time 0) (rule_read (refused wrong_time 0) (under None (ap paper_dated (sym q) ∙ e))) (ap paper_written f) refl
+              ruled before r (refused wrong_time 0) (rule_read (refused wrong_time 0) (under None ((sym q) ∙ e))) (ap paper_written f) refl
 
       module _ (n : ℕ) (d : Date) (o : IssueOn l n d) (b : Bulletin) (reads : Reads text d.year d.month b) where
         under_date : read_under text (date_of (book_of l).issue) ≡ read_bulletin text d.year d.month

@@ -8,7 +8,7 @@ ghost use Rattle.sending.specs.Send.{WritesEdited};
 ghost use Rattle.sending.specs.Under.{IssueOn, Belonging};
 
 use bulletin::Reading;
-use calendar::{Date, Dated};
+use calendar::Date;
 use refusal::Refusal;
 use segments::Segments;
 use writing::Written;
@@ -88,7 +88,7 @@ fn write_sound(text: &[u8], book: &[u8], out: &mut [u8]) -> Written
     ensures { WritesEdited text.now book.now out.old out.new result }
 {
     let issue = blocks::number_at(book, 0) as usize;
-    let Dated::On(date) = calendar::date_of(issue) else {
+    let Some(date) = calendar::date_of(issue) else {
         return refused(refusal::WRONG_TIME);
     };
     write_dated(text, book, issue, date, out)

@@ -16,7 +16,6 @@ use Rattle.codes.specs.Places.{upward}
 use Rattle.writing.specs.Ink.{open_one, ink_from}
 use Rattle.writing.proofs.Ink.{ink_start}
 use Rattle.writing.specs.Pen.{Stored, Inked, ahead, FineState, Turned, closing, close_most, Closed, block_most, Composed}
-use Rattle.codes.specs.declared.Last.TheVariants as last
 use Rattle.writing.specs.declared.Pen.{Pen}
 use Rattle.writing.specs.declared.State.{State}
 use Rattle.writing.proofs.Spelling.{stored_on}
@@ -36,7 +35,7 @@ pub record Begun (end : End) (a b : List ℕ) (s : State) (i : ℕ) (ps : List �
   pub within : i ≤ length ps
 
 module _ (end : End) (a : List ℕ) (ps : List ℕ) (set : Set ps) where
-  pub begun_start : Begun end a a (record { pen = origin; last = last.Nothing; lo = get_or ps 0 0; more = 0 }) 1 ps
+  pub begun_start : Begun end a a (record { pen = origin; last = None; lo = get_or ps 0 0; more = 0 }) 1 ps
   unfolding upward
   begun_start =
       record {

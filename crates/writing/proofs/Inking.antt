@@ -14,9 +14,6 @@ use Rattle.lines.specs.Lines.{end_bytes}
 use Rattle.lines.specs.declared.End.{End}
 use Rattle.codes.specs.Places.{prefix_bytes}
 use Rattle.codes.specs.Written.{new_prefix, parted, element_of, elements_of, written_most}
-use Rattle.codes.specs.Cursor.{paper_last}
-use Rattle.codes.specs.declared.Last.{Last}
-use Rattle.codes.specs.declared.Last.TheVariants.{Prefix}
 use Rattle.writing.specs.Ink.{ink_from}
 use Rattle.writing.proofs.Ink.{ink_on, ink_next}
 use Rattle.writing.proofs.Spelling.{stored_none, stored_on}
@@ -88,7 +85,3 @@ module _ (end : End) (a : List ℕ) (last : Option ℕ) (lo more : ℕ) (p : Pen
   flush_two h b c q r d u eu g =
       let g' : Inked end b c q r (element_of (Some (lo / 1000)) (run_from (lo + 1) 0) ∷ []) = rw eu at g in
       rw (h, ← add-one lo) (inked_on d g')
-
--- whether a prefix is the last one
-pub last_told : (l : Last) (q p w : ℕ) → l ≡ Prefix q → w ≡ p → new_prefix (paper_last l) p ≡ cond (eqb q w) [] (prefix_bytes p)
-last_told l q p w e f = rw (e, f)

@@ -1,4 +1,5 @@
 -- A block that is written: the call's answer and its output, for each way out. Assumes nothing.
+use Rattle.std.specs.Prelude.{Option, None, Some}
 use Prim.Native.Nat.{ℕ, ◌≤◌, ◌<◌}
 use native.Mathlib.Omega.{arith}
 use mathlib.Core.Path.{◌≡◌, sym, ap, ◌∙◌}
@@ -12,10 +13,7 @@ use Rattle.refusal.specs.Numbers.{output_short, out_of_range}
 use Rattle.refusal.specs.Answer.{Answer, ok, refusal_for, and_then}
 use Rattle.lines.specs.declared.End.{End}
 use Rattle.calendar.specs.Calendar.{is_time, date_of}
-use Rattle.calendar.specs.Paper.{paper_dated}
 use Rattle.calendar.specs.declared.Date.{Date}
-use Rattle.calendar.specs.declared.Dated.{Dated}
-use Rattle.calendar.specs.declared.Dated.TheVariants as dated
 use Rattle.calendar.proofs.Laws.{date_time}
 use Rattle.codes.specs.Written.{written}
 use Rattle.writing.specs.Write.{dated_block, written_block, fitting, write_rule, WritesEnded}
@@ -34,26 +32,26 @@ module _ (end : End) (out places : List ℕ) (minute : ℕ) (t : Bool) (et : t �
   unfolding write_rule written_block and_then
   writes_no_set n = refuses end out places minute 24 (rw (← et, n))
 
-  module _ (y : t ≡ true) (d : Dated) (ed : paper_dated d ≡ date_of minute) where
+  module _ (y : t ≡ true) (d : Option Date) (ed : d ≡ date_of minute) where
     pub writes_set : is_set places ≡ true
     writes_set = sym et ∙ y
 
-    block_is : written_block end places minute ≡ dated_block end places (paper_dated d)
+    block_is : written_block end places minute ≡ dated_block end places d
     unfolding written_block
     block_is = rw (← et, y, ← ed)
 
-    pub writes_no_date : d ≡ dated.Nothing → (r : Written) → r ≡ Refused (refusal_for out_of_range 0) → WritesEnded end out out places minute r
+    pub writes_no_date : d ≡ None → (r : Written) → r ≡ Refused (refusal_for out_of_range 0) → WritesEnded end out out places minute r
     unfolding write_rule and_then
-    writes_no_date n = refuses end out places minute 24 (ap (λ (a : Answer (List ℕ)). and_then a (fitting (length out))) (block_is ∙ ap (λ (x : Dated). dated_block end places (paper_dated x)) n))
+    writes_no_date n = refuses end out places minute 24 (ap (λ (a : Answer (List ℕ)). and_then a (fitting (length out))) (block_is ∙ ap (λ (x : Option Date). dated_block end places x) n))
 
-    module _ (date : Date) (q : d ≡ dated.On date) where
+    module _ (date : Date) (q : d ≡ Some date) where
       pub writes_time : is_time date.stamp ≡ true
-      writes_time = date_time date minute (sym ed ∙ ap paper_dated q)
+      writes_time = date_time date minute (sym ed ∙ q)
 
       module _ (n : ℕ) (before block : List ℕ) (c : Composed before block (written end places date.stamp) n) where
         rule_is : write_rule end (length out) places minute ≡ fitting (length out) (written end places date.stamp)
         unfolding write_rule and_then
-        rule_is = ap (λ (a : Answer (List ℕ)). and_then a (fitting (length out))) (block_is ∙ ap (λ (x : Dated). dated_block end places (paper_dated x)) q)
+        rule_is = ap (λ (a : Answer (List ℕ)). and_then a (fitting (length out))) (block_is ∙ ap (λ (x : Option Date). dated_block end places x) q)
 
         pub writes_short : length out < n → (r : Written) → r ≡ Refused (refusal_for output_short 0) → WritesEnded end out out places minute r
         unfolding fitting

@@ -7,7 +7,6 @@ use Rattle.codes.specs.Places.{places_end}
 use Rattle.codes.specs.Written.{Run, runs_of, spans_of, elements_of, purge_element, written_most}
 use Rattle.codes.specs.Places.{upward}
 use Rattle.writing.specs.Ink.{Open, ink_from}
-use Rattle.codes.specs.Cursor.{paper_last}
 use Rattle.writing.specs.declared.Pen.{Pen}
 use Rattle.writing.specs.declared.State.{State}
 
@@ -49,7 +48,7 @@ pub record Inked (end : End) (a b : List ℕ) (p r : Pen) (es : List (List ℕ))
 -- ---- an open run
 -- the elements that are still to be written: those of the open run and of the places qs after it
 abbrev pub ahead : State → List ℕ → List (List ℕ)
-ahead s qs = elements_of (paper_last s.last) (spans_of (runs_of (upward s.lo (suc s.more) ++ qs)))
+ahead s qs = elements_of s.last (spans_of (runs_of (upward s.lo (suc s.more) ++ qs)))
 
 pub record FineState (s : State) : Type 0 where
   pub joined : Open s.lo s.more

@@ -10,10 +10,8 @@ ghost use Rattle.codes.specs.Written.{joins, parted, new_prefix, up_to, element_
 ghost use Rattle.writing.specs.Ink.{Open};
 ghost use Rattle.writing.specs.Write.{WritesEnded, Writes};
 ghost use Rattle.writing.specs.Pen.{Stored, element_most, run_from, Room, ink_most, Inked, FineState, Turned, close_most, Closed, block_most, Composed};
-ghost use Rattle.codes.specs.Cursor.{paper_last};
 
-use calendar::{Dated, Stamp};
-use codes::Last;
+use calendar::Stamp;
 use lines::End;
 use refusal::Refusal;
 
@@ -47,7 +45,7 @@ struct Pen {
 #[derive(Clone, Copy)]
 struct State {
     pen: Pen,
-    last: Last,
+    last: Option<usize>,
     lo: u32,
     more: u32,
 }
@@ -73,13 +71,10 @@ fn is_set(places: &[u32]) -> bool
 }
 
 // Whether p is the prefix of the last element.
-fn is_last(last: Last, p: u32) -> bool
-    ensures { new_prefix (paper_last last) p ≡ cond result [] (prefix_bytes p) }
+fn is_last(last: Option<usize>, p: u32) -> bool
+    ensures { new_prefix (last) p ≡ cond result [] (prefix_bytes p) }
 {
-    match last {
-        Last::Prefix(q) => q == codes::wide(p),
-        Last::Nothing => false,
-    }
+    last == Some(codes::wide(p))
 }
 
 // An element's bytes go straight to their places in the output. Were it built by value, a copy of it would wait for each of its bytes.
@@ -141,9 +136,9 @@ fn put_prefix(out: &mut [u8], pos: usize, p: u32) -> usize
 }
 
 // The prefix, unless it is that of the last element.
-fn put_new_prefix(out: &mut [u8], pos: usize, last: Last, p: u32) -> usize
+fn put_new_prefix(out: &mut [u8], pos: usize, last: Option<usize>, p: u32) -> usize
     requires { (pos + 3 ≤ length out.old) × (p < prefixes) }
-    ensures stored { Stored out.old out.new pos result (new_prefix (paper_last last) p) }
+    ensures stored { Stored out.old out.new pos result (new_prefix (last) p) }
     ensures most { result ≤ pos + 3 }
 {
     if is_last(last, p) {
@@ -166,9 +161,9 @@ fn put_end(out: &mut [u8], pos: usize, n: u32, more: u32) -> usize
 }
 
 // The element of lo and so many more.
-fn put_element(out: &mut [u8], pos: usize, last: Last, lo: u32, more: u32) -> usize
+fn put_element(out: &mut [u8], pos: usize, last: Option<usize>, lo: u32, more: u32) -> usize
     requires { (pos + element_most ≤ length out.old) × (lo < places_end) × (lo % 1000 + more ≤ 999) }
-    ensures { Stored out.old out.new pos result (element_of (paper_last last) (run_from lo more)) }
+    ensures { Stored out.old out.new pos result (element_of (last) (run_from lo more)) }
 {
     let n = lo % 1000;
     let number = put_new_prefix(&mut *out, pos, last, lo / 1000);
@@ -178,8 +173,8 @@ fn put_element(out: &mut [u8], pos: usize, last: Last, lo: u32, more: u32) -> us
     end + 1
 }
 
-fn new_prefix_length(last: Last, p: u32) -> usize
-    ensures value { result ≡ length (new_prefix (paper_last last) p) }
+fn new_prefix_length(last: Option<usize>, p: u32) -> usize
+    ensures value { result ≡ length (new_prefix (last) p) }
     ensures most { result ≤ 3 }
 {
     if is_last(last, p) {
@@ -189,8 +184,8 @@ fn new_prefix_length(last: Last, p: u32) -> usize
 }
 
 // How many bytes the element of lo and so many more has, `nnn-` or `nnn>mmm-` behind its prefix.
-fn element_length(last: Last, lo: u32, more: u32) -> usize
-    ensures value { result ≡ length (element_of (paper_last last) (run_from lo more)) }
+fn element_length(last: Option<usize>, lo: u32, more: u32) -> usize
+    ensures value { result ≡ length (element_of (last) (run_from lo more)) }
     ensures most { result ≤ element_most }
 {
     let n = new_prefix_length(last, lo / 1000);
@@ -252,9 +247,9 @@ fn make_room(out: &mut [u8], pen: Pen, n: usize, end: End) -> Pen
 }
 
 // Sets the element of lo and so many more in the line, or in a new one.
-fn add(out: &mut [u8], pen: Pen, last: Last, lo: u32, more: u32, end: End) -> Pen
+fn add(out: &mut [u8], pen: Pen, last: Option<usize>, lo: u32, more: u32, end: End) -> Pen
     requires { (lo < places_end) × (lo % 1000 + more ≤ 999) × (pen.pos + ink_most ≤ length out.old) × (pen.col ≤ written_most) }
-    ensures { Inked end out.old out.new pen result (element_of (paper_last last) (run_from lo more) ∷ []) }
+    ensures { Inked end out.old out.new pen result (element_of (last) (run_from lo more) ∷ []) }
 {
     let n = element_length(last, lo, more);
     let at = make_room(&mut *out, pen, n, end);
@@ -286,15 +281,15 @@ fn joins(p: u32, q: u32) -> bool
 }
 
 // Writes a run: one of two as two singles, any other as one element.
-fn flush(out: &mut [u8], pen: Pen, last: Last, lo: u32, more: u32, end: End) -> Pen
+fn flush(out: &mut [u8], pen: Pen, last: Option<usize>, lo: u32, more: u32, end: End) -> Pen
     requires { Open lo more × (lo + more < places_end) × (pen.pos + 2 * ink_most ≤ length out.old) × (pen.col ≤ written_most) }
-    ensures inked { Inked end out.old out.new pen result (elements_of (paper_last last) (parted lo more)) }
+    ensures inked { Inked end out.old out.new pen result (elements_of (last) (parted lo more)) }
     ensures most { result.pos ≤ pen.pos + 2 * ink_most }
 {
     if more == 1 {
         let next = add(&mut *out, pen, last, lo, 0, end);
         let under = codes::wide(lo / 1000);
-        return add(&mut *out, next, Last::Prefix(under), lo + 1, 0, end);
+        return add(&mut *out, next, Some(under), lo + 1, 0, end);
     }
     add(&mut *out, pen, last, lo, more, end)
 }
@@ -320,7 +315,7 @@ fn turn(out: &mut [u8], s: State, q: u32, end: End) -> State
     let under = codes::wide(lo / 1000);
     State {
         pen: next,
-        last: Last::Prefix(under),
+        last: Some(under),
         lo: q,
         more: 0,
     }
@@ -350,7 +345,7 @@ fn compose(out: &mut [u8], places: &[u32], stamp: Stamp, end: End) -> usize
     let first = places[0];
     let mut s = State {
         pen: Pen { pos: 0, col: 0 },
-        last: Last::Nothing,
+        last: None,
         lo: first,
         more: 0,
     };
@@ -373,7 +368,7 @@ pub fn write_ended(out: &mut [u8], places: &[u32], purge: usize, end: End) -> Wr
     ensures { WritesEnded end out.old out.new places.now purge result }
 {
     if is_set(places) {
-        let Dated::On(date) = calendar::date_of(purge) else {
+        let Some(date) = calendar::date_of(purge) else {
             return refused(refusal::OUT_OF_RANGE);
         };
         let mut block = [0u8; 2048];

@@ -27,4 +27,4 @@ returns c = let l = c.args.book.now in
     let y : Bytes l = λ i. omega (arith, c.slice_known-1.given i) in
     open_does l c.if-book-ne25088.false _ c.is_sound-sound.ensures (ap not c.if-not-sound.false) _
     c.lowest_closed.ensures _
-    c.in-Draft.is y _ c.open_draft.ensures _ c.seal_index.ensures
+    c.in-Some.is y _ c.open_draft.ensures _ c.seal_index.ensures

@@ -52,5 +52,5 @@ unfolding Bytes
 returns c = let l = c.args.book.now in
     let y : Bytes l = λ i. omega (arith, c.slice_known-1.given i) in
     take_does l y _ _ _ c.in_default.is c.admit-verdict.ensures _ c.find_copy.ensures
-    c.in-NotTaken.is _ c.count_taken-n.ensures c.if-n-ge2.false _
+    c.in-None.is _ c.count_taken-n.ensures c.if-n-ge2.false _
     c.take_copy.ensures _ c.seal_index.ensures

@@ -34,7 +34,7 @@ pub returns-then-there : goal.returns-then-there
 unfolding Bytes
 returns-then-there c = let l = c.args.book.now in
     let y : Bytes l = λ i. omega (arith, c.slice_known-1.given i) in
-    let w = working l y _ _ _ _ c.in_default.is c.admit-verdict.ensures _ c.find_copy.ensures _ c.in-Copy.is in
+    let w = working l y _ _ _ _ c.in_default.is c.admit-verdict.ensures _ c.find_copy.ensures _ c.in-Some.is in
     let r = ranging l _ _ _ _ c.in_default.is c.admit-verdict.ensures in
     add_old l _ _ _ w _ c.load-h.ensures.fits c.load-h.ensures.is _ _ c.narrow-place.ensures r _ c.has_place-there.ensures c.if-there.true
 
@@ -42,7 +42,7 @@ pub returns-then-h-ge120 : goal.returns-then-h-ge120
 unfolding Bytes
 returns-then-h-ge120 c = let l = c.args.book.now in
     let y : Bytes l = λ i. omega (arith, c.slice_known-1.given i) in
-    let w = working l y _ _ _ _ c.in_default.is c.admit-verdict.ensures _ c.find_copy.ensures _ c.in-Copy.is in
+    let w = working l y _ _ _ _ c.in_default.is c.admit-verdict.ensures _ c.find_copy.ensures _ c.in-Some.is in
     let r = ranging l _ _ _ _ c.in_default.is c.admit-verdict.ensures in
     add_full l _ _ _ w _ c.load-h.ensures.fits c.load-h.ensures.is _ _ c.narrow-place.ensures r _ c.has_place-there.ensures c.if-there.false c.if-h-ge120.true _ c.refused-then-h-ge120.ensures
 
@@ -50,20 +50,20 @@ pub with_place-new-requires : goal.with_place-new-requires
 unfolding Bytes
 with_place-new-requires c = let l = c.args.book.now in
     let y : Bytes l = λ i. omega (arith, c.slice_known-1.given i) in
-    let w = working l y _ _ _ _ c.in_default.is c.admit-verdict.ensures _ c.find_copy.ensures _ c.in-Copy.is in
+    let w = working l y _ _ _ _ c.in_default.is c.admit-verdict.ensures _ c.find_copy.ensures _ c.in-Some.is in
     record { fits_2 = search rules; count_lt_capacity = search rules; h_value = held_up l _ _ _ w _ c.load-h.ensures.fits c.load-h.ensures.is; h_value_2 = sym c.has_place-there.ensures ∙ c.if-there.false }
 
 pub store_held-requires : goal.store_held-requires
 unfolding Bytes
 store_held-requires c = let l = c.args.book.now in
     let y : Bytes l = λ i. omega (arith, c.slice_known-1.given i) in
-    let w = working l y _ _ _ _ c.in_default.is c.admit-verdict.ensures _ c.find_copy.ensures _ c.in-Copy.is in
+    let w = working l y _ _ _ _ c.in_default.is c.admit-verdict.ensures _ c.find_copy.ensures _ c.in-Some.is in
     record { book_len = (w.long, w.block); fits = search rules }
 
 pub returns : goal.returns
 unfolding Bytes
 returns c = let l = c.args.book.now in
     let y : Bytes l = λ i. omega (arith, c.slice_known-1.given i) in
-    let w = working l y _ _ _ _ c.in_default.is c.admit-verdict.ensures _ c.find_copy.ensures _ c.in-Copy.is in
+    let w = working l y _ _ _ _ c.in_default.is c.admit-verdict.ensures _ c.find_copy.ensures _ c.in-Some.is in
     let r = ranging l _ _ _ _ c.in_default.is c.admit-verdict.ensures in
     add_new l _ _ _ w _ c.load-h.ensures.fits c.load-h.ensures.is _ _ c.narrow-place.ensures r _ c.has_place-there.ensures c.if-there.false c.if-h-ge120.false _ c.with_place-new.ensures.is c.with_place-new.ensures.fits _ c.store_held.ensures

@@ -32,14 +32,14 @@ pub number_at-requires : goal.number_at-requires
 unfolding Bytes
 number_at-requires c = let l = c.args.book.now in
     let y : Bytes l = λ i. omega (arith, c.slice_known-1.given i) in
-    let w = working l y _ _ _ _ c.in_default.is c.admit-verdict.ensures _ c.find_copy.ensures _ c.in-Copy.is in
+    let w = working l y _ _ _ _ c.in_default.is c.admit-verdict.ensures _ c.find_copy.ensures _ c.in-Some.is in
     let h : length l ≡ book_length = w.long in omega arith
 
 pub returns-in_default-purge_of : goal.returns-in_default-purge_of
 unfolding Bytes
 returns-in_default-purge_of c = let l = c.args.book.now in
     let y : Bytes l = λ i. omega (arith, c.slice_known-1.given i) in
-    let w = working l y _ _ _ _ c.in_default.is c.admit-verdict.ensures _ c.find_copy.ensures _ c.in-Copy.is in
+    let w = working l y _ _ _ _ c.in_default.is c.admit-verdict.ensures _ c.find_copy.ensures _ c.in-Some.is in
     let r = ranging l _ _ _ _ c.in_default.is c.admit-verdict.ensures in
     purge_none l _ _ _ w _ c.load-h.ensures.fits c.load-h.ensures.is _ _ r c.is_time-in_range.ensures _ (c.wide-issue.ensures ∙ c.number_at.ensures) _ c.purge_of.ensures c.in_default-purge_of.is _ c.refused-in_default-purge_of.ensures
 
@@ -50,13 +50,13 @@ pub store_held-requires : goal.store_held-requires
 unfolding Bytes
 store_held-requires c = let l = c.args.book.now in
     let y : Bytes l = λ i. omega (arith, c.slice_known-1.given i) in
-    let w = working l y _ _ _ _ c.in_default.is c.admit-verdict.ensures _ c.find_copy.ensures _ c.in-Copy.is in
+    let w = working l y _ _ _ _ c.in_default.is c.admit-verdict.ensures _ c.find_copy.ensures _ c.in-Some.is in
     record { book_len = (w.long, w.block); fits = record { long = c.load-h.ensures.fits.long; few = c.load-h.ensures.fits.few } }
 
 pub returns : goal.returns
 unfolding Bytes
 returns c = let l = c.args.book.now in
     let y : Bytes l = λ i. omega (arith, c.slice_known-1.given i) in
-    let w = working l y _ _ _ _ c.in_default.is c.admit-verdict.ensures _ c.find_copy.ensures _ c.in-Copy.is in
+    let w = working l y _ _ _ _ c.in_default.is c.admit-verdict.ensures _ c.find_copy.ensures _ c.in-Some.is in
     let r = ranging l _ _ _ _ c.in_default.is c.admit-verdict.ensures in
-    purge_some l _ _ _ w _ c.load-h.ensures.fits c.load-h.ensures.is _ _ r c.is_time-in_range.ensures _ (c.wide-issue.ensures ∙ c.number_at.ensures) _ c.purge_of.ensures _ c.in-At.is _ c.narrow-purge.ensures _ c.store_held.ensures
+    purge_some l _ _ _ w _ c.load-h.ensures.fits c.load-h.ensures.is _ _ r c.is_time-in_range.ensures _ (c.wide-issue.ensures ∙ c.number_at.ensures) _ c.purge_of.ensures _ c.in-Some-purge_of.is _ c.narrow-purge.ensures _ c.store_held.ensures

@@ -13,7 +13,7 @@ returns-in_default c = search (window_there, rules)
 
 pub all-requires-clause-callable : goal.all-requires-clause-callable
 all-requires-clause-callable c =
-    let told : WindowOf (number_at c.args.book.now 0) c.in-Is.w = search (window_told, rules) in
+    let told : WindowOf (number_at c.args.book.now 0) c.in-Some.w = search (window_told, rules) in
     serves_from_Range (λ x q r. search rules) (λ x g h. search rules)
 
 pub returns : goal.returns

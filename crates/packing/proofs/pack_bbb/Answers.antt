@@ -2,8 +2,8 @@ use Rattle.packing.proofs.Ways.{bbb_none, bbb_code}
 use Rattle.std.proofs.Common.{rules}
 use Rattle.packing.proofs.pack_bbb.Goals as goal
 
-pub returns-in-Nothing : goal.returns-in-Nothing
-returns-in-Nothing c = search (bbb_none, rules)
+pub returns-in-None : goal.returns-in-None
+returns-in-None c = search (bbb_none, rules)
 
-pub returns-in-Code : goal.returns-in-Code
-returns-in-Code c = search (bbb_code, rules)
+pub returns-in-Some : goal.returns-in-Some
+returns-in-Some c = search (bbb_code, rules)

@@ -15,8 +15,8 @@ keep-requires c = (search rules, search (keep_few, rules))
 pub returns-in-Refused-clause-is : goal.returns-in-Refused-clause-is
 returns-in-Refused-clause-is c = search (begun_refused, rules)
 
-pub returns-in-Line-clause-is : goal.returns-in-Line-clause-is
-returns-in-Line-clause-is c = search (begun_one, rules)
+pub returns-in-Some-clause-is : goal.returns-in-Some-clause-is
+returns-in-Some-clause-is c = search (begun_one, rules)
 
-pub returns-in-Line-clause-kept : goal.returns-in-Line-clause-kept
-returns-in-Line-clause-kept c = search (kept_one, rules)
+pub returns-in-Some-clause-kept : goal.returns-in-Some-clause-kept
+returns-in-Some-clause-kept c = search (kept_one, rules)
