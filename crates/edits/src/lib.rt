@@ -107,7 +107,7 @@ fn store_held(book: &mut [u8], k: usize, h: Held)
 {
     let places = h.places;
     let count = h.count;
-    blocks::store(book, k, h.purge, &places[0..count]);
+    blocks::store(blocks::as_book_mut(book), k, h.purge, &places[0..count]);
 }
 
 // Another purge minute of a draft's copy: the one that DDHHMM gives.
@@ -122,7 +122,7 @@ pub fn set_purge(book: &mut [u8], d: usize, s: usize, time: Stamp) -> Reply
     let Some(k) = copies::find_copy(book, d, s) else {
         return layout::refused(refusal::NOT_TAKEN);
     };
-    let h = blocks::load(book, k);
+    let h = blocks::load(blocks::as_book(book), k);
     let issue = codes::wide(blocks::number_at(book, 0));
     let Some(minute) = calendar::purge_of(issue, time) else {
         return layout::refused(refusal::WRONG_TIME);
@@ -151,7 +151,7 @@ pub fn add(book: &mut [u8], d: usize, s: usize, p: usize) -> Reply
     let Some(k) = copies::find_copy(book, d, s) else {
         return layout::refused(refusal::NOT_TAKEN);
     };
-    let h = blocks::load(book, k);
+    let h = blocks::load(blocks::as_book(book), k);
     let place = narrow(p);
     let there = has_place(h, place);
     if there {
@@ -177,7 +177,7 @@ pub fn remove(book: &mut [u8], d: usize, s: usize, p: usize) -> Reply
     let Some(k) = copies::find_copy(book, d, s) else {
         return layout::refused(refusal::NOT_TAKEN);
     };
-    let h = blocks::load(book, k);
+    let h = blocks::load(blocks::as_book(book), k);
     let place = narrow(p);
     let there = has_place(h, place);
     if !there {
