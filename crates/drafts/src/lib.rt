@@ -50,6 +50,7 @@ pub fn open(book: &mut [u8]) -> Result<Reply, Refusal>
         return Err(Reason::NotSound.into());
     }
     let d = lowest_closed(book).ok_or(Reason::AllOpen)?;
+    let book = blocks::as_book_mut(book);
     moves::open_draft(book, d);
     moves::seal_index(book);
     Ok(Reply::Draft(d))
@@ -68,6 +69,7 @@ pub fn drop(book: &mut [u8], d: usize) -> Result<Reply, Refusal>
     if !copies::is_open(book, d) {
         return Err(Reason::NoDraft.into());
     }
+    let book = blocks::as_book_mut(book);
     moves::close_draft(book, d);
     moves::seal_index(book);
     Ok(Reply::Done)
@@ -102,6 +104,7 @@ pub fn take(book: &mut [u8], d: usize, s: usize) -> Result<Reply, Refusal>
     if 2 <= n {
         return Err(Reason::TwoTaken.into());
     }
+    let book = blocks::as_book_mut(book);
     moves::take_copy(book, d, n, s);
     moves::seal_index(book);
     Ok(Reply::Done)
@@ -113,7 +116,7 @@ pub fn read_purge(book: &[u8], d: usize, s: usize) -> Result<Reply, Refusal>
 {
     copies::admit(book, d, true, s)?;
     let k = copies::find_copy(book, d, s).ok_or(Reason::NotTaken)?;
-    let h = blocks::load(book, k);
+    let h = blocks::load(blocks::as_book(book), k);
     Ok(Reply::Number(codes::wide(h.purge)))
 }
 
@@ -123,7 +126,7 @@ pub fn read_count(book: &[u8], d: usize, s: usize) -> Result<Reply, Refusal>
 {
     copies::admit(book, d, true, s)?;
     let k = copies::find_copy(book, d, s).ok_or(Reason::NotTaken)?;
-    let h = blocks::load(book, k);
+    let h = blocks::load(blocks::as_book(book), k);
     Ok(Reply::Number(h.count))
 }
 
@@ -133,7 +136,7 @@ pub fn read_place(book: &[u8], d: usize, s: usize, i: usize) -> Result<Reply, Re
 {
     copies::admit(book, d, true, s)?;
     let k = copies::find_copy(book, d, s).ok_or(Reason::NotTaken)?;
-    let h = blocks::load(book, k);
+    let h = blocks::load(blocks::as_book(book), k);
     if h.count <= i {
         return Err(Reason::OutOfRange.into());
     }

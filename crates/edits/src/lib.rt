@@ -77,7 +77,7 @@ fn store_held(book: &mut [u8], k: usize, h: Held)
     requires fits { Fits h }
     ensures { book.new ≡ put_block k (holding (Some (held_content h))) book.old }
 {
-    blocks::store(book, k, h.purge, &h.places[..h.count]);
+    blocks::store(blocks::as_book_mut(book), k, h.purge, &h.places[..h.count]);
 }
 
 // Another purge minute of a draft's copy: the one that DDHHMM gives.
@@ -86,7 +86,7 @@ pub fn set_purge(book: &mut [u8], d: usize, s: usize, time: Stamp) -> Result<Rep
 {
     copies::admit(book, d, calendar::is_time(time), s)?;
     let k = copies::find_copy(book, d, s).ok_or(Reason::NotTaken)?;
-    let h = blocks::load(book, k);
+    let h = blocks::load(blocks::as_book(book), k);
     let issue = codes::wide(blocks::number_at(book, 0));
     let minute = calendar::purge_of(issue, time).ok_or(Reason::WrongTime)?;
     let new = Held {
@@ -103,7 +103,7 @@ pub fn add(book: &mut [u8], d: usize, s: usize, p: usize) -> Result<Reply, Refus
 {
     copies::admit(book, d, p < 1352000, s)?;
     let k = copies::find_copy(book, d, s).ok_or(Reason::NotTaken)?;
-    let h = blocks::load(book, k);
+    let h = blocks::load(blocks::as_book(book), k);
     let place = p as u32;
     if has_place(&h, place) {
         return Ok(Reply::Was(true));
@@ -122,7 +122,7 @@ pub fn remove(book: &mut [u8], d: usize, s: usize, p: usize) -> Result<Reply, Re
 {
     copies::admit(book, d, p < 1352000, s)?;
     let k = copies::find_copy(book, d, s).ok_or(Reason::NotTaken)?;
-    let h = blocks::load(book, k);
+    let h = blocks::load(blocks::as_book(book), k);
     let place = p as u32;
     if !has_place(&h, place) {
         return Ok(Reply::Was(false));

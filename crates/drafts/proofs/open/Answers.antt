@@ -27,7 +27,7 @@ returns-in_err-d c = let l = c.args.book.now in
 pub open_draft-requires : goal.open_draft-requires
 open_draft-requires c =
     let q : c.lowest_closed.result ≡ Some c.in_ok-d.d = grind arith in
-    (search rules, search (open_from, rules), search (open_to, rules))
+    (search (open_from, rules), search (open_to, rules))
 
 pub returns : goal.returns
 unfolding Bytes
@@ -36,4 +36,4 @@ returns c = let l = c.args.book.now in
     let q : c.lowest_closed.result ≡ Some c.in_ok-d.d = grind arith in
     open_does l c.if-book-ne25088.false _ c.is_sound.ensures (ap not c.if-not-is_sound.false) _
     c.lowest_closed.ensures _
-    q y _ c.open_draft.ensures _ c.seal_index.ensures
+    q y _ (rw c.as_book_mut-book.ensures.value at c.open_draft.ensures) _ c.seal_index.ensures

@@ -31,13 +31,21 @@ returns-in_err-k c = let l = c.args.book.now in
     let n : c.find_copy.result ≡ None = p.nothing in
     rw p.is (search (absent_read, y, rules))
 
+pub as_book-requires : goal.as_book-requires
+unfolding Bytes
+as_book-requires c = let l = c.args.book.now in
+    let y : Bytes l = λ i. omega (arith, c.shared_slice_known-1.given i) in
+    let is : c.admit.result ≡ Ok tt = c.in_ok-admit.was in
+    let q : c.find_copy.result ≡ Some c.in_ok-k.k = grind arith in
+    search (load_long, y, rules)
+
 pub load-h-requires : goal.load-h-requires
 unfolding Bytes
 load-h-requires c = let l = c.args.book.now in
     let y : Bytes l = λ i. omega (arith, c.shared_slice_known-1.given i) in
     let is : c.admit.result ≡ Ok tt = c.in_ok-admit.was in
     let q : c.find_copy.result ≡ Some c.in_ok-k.k = grind arith in
-    (search (load_long, y, rules), search (load_block, y, rules), search (load_few, y, rules))
+    (search (load_block, y, rules), rw c.as_book.ensures (search (load_few, y, rules)))
 
 pub returns : goal.returns
 unfolding Bytes
@@ -45,4 +53,5 @@ returns c = let l = c.args.book.now in
     let y : Bytes l = λ i. omega (arith, c.shared_slice_known-1.given i) in
     let is : c.admit.result ≡ Ok tt = c.in_ok-admit.was in
     let q : c.find_copy.result ≡ Some c.in_ok-k.k = grind arith in
-    search (reads_purge, working, y, rules)
+    let holds = rw c.as_book.ensures at c.load-h.ensures.is in
+    search (reads_purge, working, y, holds, rules)

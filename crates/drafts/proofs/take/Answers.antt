@@ -44,22 +44,20 @@ returns-then-n-ge2 c = let l = c.args.book.now in
     let is : c.admit.result ≡ Ok tt = c.in_ok-admit.was in
     search (take_full, y, rules)
 
+pub as_book_mut-book-requires : goal.as_book_mut-book-requires
+as_book_mut-book-requires c =
+    let is : c.admit.result ≡ Ok tt = c.in_ok-admit.was in
+    search (take_long, rules)
+
 pub take_copy-requires : goal.take_copy-requires
 take_copy-requires c =
     let is : c.admit.result ≡ Ok tt = c.in_ok-admit.was in (
-      search (take_long, rules),
       search (take_from, rules),
       search (take_to, rules),
       search rules,
       search (take_segment_from, rules),
       search (take_segment_to, rules),
     )
-
-pub seal_index-requires : goal.seal_index-requires
-seal_index-requires c = let l = c.args.book.now in
-    let is : c.admit.result ≡ Ok tt = c.in_ok-admit.was in
-    let long = take_long l _ _ _ is c.admit.ensures in
-    search (long, rules)
 
 pub returns : goal.returns
 unfolding Bytes
@@ -68,4 +66,4 @@ returns c = let l = c.args.book.now in
     let is : c.admit.result ≡ Ok tt = c.in_ok-admit.was in
     take_does l y _ _ _ is c.admit.ensures _ c.find_copy.ensures
     _ c.is_some.ensures c.if-is_some.false _ c.count_taken-n.ensures c.if-n-ge2.false _
-    c.take_copy.ensures _ c.seal_index.ensures
+    (rw c.as_book_mut-book.ensures.value at c.take_copy.ensures) _ c.seal_index.ensures

@@ -31,13 +31,21 @@ returns-in_err-k c = let l = c.args.book.now in
     let n : c.find_copy.result ≡ None = p.nothing in
     rw p.is (search (absent_does, ranging, y, rules))
 
+pub as_book-requires : goal.as_book-requires
+unfolding Bytes
+as_book-requires c = let l = c.args.book.now in
+    let y : Bytes l = λ i. omega (arith, c.slice_known-1.given i) in
+    let is : c.admit.result ≡ Ok tt = c.in_ok-admit.was in
+    let q : c.find_copy.result ≡ Some c.in_ok-k.k = grind arith in
+    search (load_long, y, rules)
+
 pub load-h-requires : goal.load-h-requires
 unfolding Bytes
 load-h-requires c = let l = c.args.book.now in
     let y : Bytes l = λ i. omega (arith, c.slice_known-1.given i) in
     let is : c.admit.result ≡ Ok tt = c.in_ok-admit.was in
     let q : c.find_copy.result ≡ Some c.in_ok-k.k = grind arith in
-    (search (load_long, y, rules), search (load_block, y, rules), search (load_few, y, rules))
+    (search (load_block, y, rules), rw c.as_book.ensures (search (load_few, y, rules)))
 
 pub narrow-place-requires : goal.narrow-place-requires
 narrow-place-requires c =
@@ -52,7 +60,7 @@ returns-then-there c = let l = c.args.book.now in
     let q : c.find_copy.result ≡ Some c.in_ok-k.k = grind arith in
     let w = working l y _ _ _ _ is c.admit.ensures _ c.find_copy.ensures _ q in
     let r = ranging l _ _ _ _ is c.admit.ensures in
-    add_old l _ _ _ w _ c.load-h.ensures.fits c.load-h.ensures.is _ _ c.narrow-place.ensures r _ c.has_place-there.ensures c.if-there.true
+    add_old l _ _ _ w _ c.load-h.ensures.fits (rw c.as_book.ensures at c.load-h.ensures.is) _ _ c.narrow-place.ensures r _ c.has_place-there.ensures c.if-there.true
 
 pub returns-then-h-ge120 : goal.returns-then-h-ge120
 unfolding Bytes
@@ -62,7 +70,7 @@ returns-then-h-ge120 c = let l = c.args.book.now in
     let q : c.find_copy.result ≡ Some c.in_ok-k.k = grind arith in
     let w = working l y _ _ _ _ is c.admit.ensures _ c.find_copy.ensures _ q in
     let r = ranging l _ _ _ _ is c.admit.ensures in
-    add_full l _ _ _ w _ c.load-h.ensures.fits c.load-h.ensures.is _ _ c.narrow-place.ensures r _ c.has_place-there.ensures c.if-there.false c.if-h-ge120.true _ c.into.ensures
+    add_full l _ _ _ w _ c.load-h.ensures.fits (rw c.as_book.ensures at c.load-h.ensures.is) _ _ c.narrow-place.ensures r _ c.has_place-there.ensures c.if-there.false c.if-h-ge120.true _ c.into.ensures
 
 pub with_place-new-requires : goal.with_place-new-requires
 unfolding Bytes
@@ -71,7 +79,7 @@ with_place-new-requires c = let l = c.args.book.now in
     let is : c.admit.result ≡ Ok tt = c.in_ok-admit.was in
     let q : c.find_copy.result ≡ Some c.in_ok-k.k = grind arith in
     let w = working l y _ _ _ _ is c.admit.ensures _ c.find_copy.ensures _ q in
-    record { fits_2 = search rules; count_lt_capacity = search rules; h_value = held_up l _ _ _ w _ c.load-h.ensures.fits c.load-h.ensures.is; h_value_2 = sym c.has_place-there.ensures ∙ c.if-there.false }
+    record { fits_2 = search rules; count_lt_capacity = search rules; h_value = held_up l _ _ _ w _ c.load-h.ensures.fits (rw c.as_book.ensures at c.load-h.ensures.is); h_value_2 = sym c.has_place-there.ensures ∙ c.if-there.false }
 
 pub store_held-requires : goal.store_held-requires
 unfolding Bytes
@@ -90,4 +98,4 @@ returns c = let l = c.args.book.now in
     let q : c.find_copy.result ≡ Some c.in_ok-k.k = grind arith in
     let w = working l y _ _ _ _ is c.admit.ensures _ c.find_copy.ensures _ q in
     let r = ranging l _ _ _ _ is c.admit.ensures in
-    add_new l _ _ _ w _ c.load-h.ensures.fits c.load-h.ensures.is _ _ c.narrow-place.ensures r _ c.has_place-there.ensures c.if-there.false c.if-h-ge120.false _ c.with_place-new.ensures.is c.with_place-new.ensures.fits _ c.store_held.ensures
+    add_new l _ _ _ w _ c.load-h.ensures.fits (rw c.as_book.ensures at c.load-h.ensures.is) _ _ c.narrow-place.ensures r _ c.has_place-there.ensures c.if-there.false c.if-h-ge120.false _ c.with_place-new.ensures.is c.with_place-new.ensures.fits _ c.store_held.ensures

@@ -32,13 +32,21 @@ returns-in_err-k c = let l = c.args.book.now in
     let n : c.find_copy.result ≡ None = p.nothing in
     rw p.is (search (absent_does, ranging, y, rules))
 
+pub as_book-requires : goal.as_book-requires
+unfolding Bytes
+as_book-requires c = let l = c.args.book.now in
+    let y : Bytes l = λ i. omega (arith, c.slice_known-1.given i) in
+    let is : c.admit.result ≡ Ok tt = c.in_ok-admit.was in
+    let q : c.find_copy.result ≡ Some c.in_ok-k.k = grind arith in
+    search (load_long, y, rules)
+
 pub load-h-requires : goal.load-h-requires
 unfolding Bytes
 load-h-requires c = let l = c.args.book.now in
     let y : Bytes l = λ i. omega (arith, c.slice_known-1.given i) in
     let is : c.admit.result ≡ Ok tt = c.in_ok-admit.was in
     let q : c.find_copy.result ≡ Some c.in_ok-k.k = grind arith in
-    (search (load_long, y, rules), search (load_block, y, rules), search (load_few, y, rules))
+    (search (load_block, y, rules), rw c.as_book.ensures (search (load_few, y, rules)))
 
 pub narrow-place-requires : goal.narrow-place-requires
 narrow-place-requires c =
@@ -53,7 +61,7 @@ returns-then-not-there c = let l = c.args.book.now in
     let q : c.find_copy.result ≡ Some c.in_ok-k.k = grind arith in
     let w = working l y _ _ _ _ is c.admit.ensures _ c.find_copy.ensures _ q in
     let r = ranging l _ _ _ _ is c.admit.ensures in
-    remove_none l _ _ _ w _ c.load-h.ensures.fits c.load-h.ensures.is _ _ c.narrow-place.ensures r _ c.has_place-there.ensures (ap not c.if-not-there.true)
+    remove_none l _ _ _ w _ c.load-h.ensures.fits (rw c.as_book.ensures at c.load-h.ensures.is) _ _ c.narrow-place.ensures r _ c.has_place-there.ensures (ap not c.if-not-there.true)
 
 pub returns-then-h-eq1 : goal.returns-then-h-eq1
 unfolding Bytes
@@ -63,7 +71,7 @@ returns-then-h-eq1 c = let l = c.args.book.now in
     let q : c.find_copy.result ≡ Some c.in_ok-k.k = grind arith in
     let w = working l y _ _ _ _ is c.admit.ensures _ c.find_copy.ensures _ q in
     let r = ranging l _ _ _ _ is c.admit.ensures in
-    remove_only l _ _ _ w _ c.load-h.ensures.fits c.load-h.ensures.is _ _ c.narrow-place.ensures r _ c.has_place-there.ensures (ap not c.if-not-there.false) c.if-h-eq1.true _ c.into.ensures
+    remove_only l _ _ _ w _ c.load-h.ensures.fits (rw c.as_book.ensures at c.load-h.ensures.is) _ _ c.narrow-place.ensures r _ c.has_place-there.ensures (ap not c.if-not-there.false) c.if-h-eq1.true _ c.into.ensures
 
 pub without_place-new-requires : goal.without_place-new-requires
 unfolding Bytes
@@ -72,7 +80,7 @@ without_place-new-requires c = let l = c.args.book.now in
     let is : c.admit.result ≡ Ok tt = c.in_ok-admit.was in
     let q : c.find_copy.result ≡ Some c.in_ok-k.k = grind arith in
     let w = working l y _ _ _ _ is c.admit.ensures _ c.find_copy.ensures _ q in
-    record { fits_2 = search rules; h_value = held_up l _ _ _ w _ c.load-h.ensures.fits c.load-h.ensures.is }
+    record { fits_2 = search rules; h_value = held_up l _ _ _ w _ c.load-h.ensures.fits (rw c.as_book.ensures at c.load-h.ensures.is) }
 
 pub store_held-requires : goal.store_held-requires
 unfolding Bytes
@@ -91,4 +99,4 @@ returns c = let l = c.args.book.now in
     let q : c.find_copy.result ≡ Some c.in_ok-k.k = grind arith in
     let w = working l y _ _ _ _ is c.admit.ensures _ c.find_copy.ensures _ q in
     let r = ranging l _ _ _ _ is c.admit.ensures in
-    remove_old l _ _ _ w _ c.load-h.ensures.fits c.load-h.ensures.is _ _ c.narrow-place.ensures r _ c.has_place-there.ensures (ap not c.if-not-there.false) c.if-h-eq1.false _ c.without_place-new.ensures.is c.without_place-new.ensures.fits _ c.store_held.ensures
+    remove_old l _ _ _ w _ c.load-h.ensures.fits (rw c.as_book.ensures at c.load-h.ensures.is) _ _ c.narrow-place.ensures r _ c.has_place-there.ensures (ap not c.if-not-there.false) c.if-h-eq1.false _ c.without_place-new.ensures.is c.without_place-new.ensures.fits _ c.store_held.ensures
