@@ -6,10 +6,10 @@ pub overflow_add-i : goal.overflow_add-i
 overflow_add-i c = search (form_fits, rules)
 
 pub load-held-requires : goal.load-held-requires
-load-held-requires c = (search rules, search (form_block, rules), search (form_few, rules))
+load-held-requires c = (search (form_block, rules), rw c.as_book.ensures (search (form_few, rules)))
 
 pub returns-in-Length : goal.returns-in-Length
 returns-in-Length c = search (form_written, rules)
 
 pub returns-in-Refused : goal.returns-in-Refused
-returns-in-Refused c = search (form_refused, rules)
+returns-in-Refused c = let holds = rw c.as_book.ensures at c.load-held.ensures.is in search (form_refused, holds, rules)
