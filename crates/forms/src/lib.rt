@@ -25,7 +25,7 @@ fn write_form(book: &[u8], i: usize, end: End, out: &mut [u8]) -> usize
     requires written_block_most_in_bounds { written_block_most ≤ length out.old }
     ensures { Formed end book.now i out.old out.new result }
 {
-    let held = blocks::load(book, i + 1);
+    let held = blocks::load(blocks::as_book(book), i + 1);
     let places = held.places;
     let count = held.count;
     let minute = held.purge as usize;

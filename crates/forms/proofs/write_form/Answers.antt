@@ -6,7 +6,7 @@ pub overflow_add-i : goal.overflow_add-i
 overflow_add-i c = search (form_fits, rules)
 
 pub load-held-requires : goal.load-held-requires
-load-held-requires c = (search rules, search (form_block, rules), search (form_few, rules))
+load-held-requires c = (search (form_block, rules), rw c.as_book.ensures (search (form_few, rules)))
 
 pub returns : goal.returns
-returns c = search (form_length, rules)
+returns c = let holds = rw c.as_book.ensures at c.load-held.ensures.is in search (form_length, holds, rules)
