@@ -52,6 +52,7 @@ pub fn open(book: &mut [u8]) -> Reply
     let Some(d) = lowest_closed(book) else {
         return layout::refused(refusal::ALL_OPEN);
     };
+    let book = blocks::as_book_mut(book);
     moves::open_draft(book, d);
     moves::seal_index(book);
     Reply::Draft(d)
@@ -72,6 +73,7 @@ pub fn drop(book: &mut [u8], d: usize) -> Reply
     if !opened {
         return layout::refused(refusal::NO_DRAFT);
     }
+    let book = blocks::as_book_mut(book);
     moves::close_draft(book, d);
     moves::seal_index(book);
     Reply::Done
@@ -109,6 +111,7 @@ pub fn take(book: &mut [u8], d: usize, s: usize) -> Reply
     if 2 <= n {
         return layout::refused(refusal::TWO_TAKEN);
     }
+    let book = blocks::as_book_mut(book);
     moves::take_copy(book, d, n, s);
     moves::seal_index(book);
     Reply::Done
@@ -125,7 +128,7 @@ pub fn read_purge(book: &[u8], d: usize, s: usize) -> Reply
     let Some(k) = copies::find_copy(book, d, s) else {
         return layout::refused(refusal::NOT_TAKEN);
     };
-    let h = blocks::load(book, k);
+    let h = blocks::load(blocks::as_book(book), k);
     Reply::Number(codes::wide(h.purge))
 }
 
@@ -140,7 +143,7 @@ pub fn read_count(book: &[u8], d: usize, s: usize) -> Reply
     let Some(k) = copies::find_copy(book, d, s) else {
         return layout::refused(refusal::NOT_TAKEN);
     };
-    let h = blocks::load(book, k);
+    let h = blocks::load(blocks::as_book(book), k);
     Reply::Number(h.count)
 }
 
@@ -155,7 +158,7 @@ pub fn read_place(book: &[u8], d: usize, s: usize, i: usize) -> Reply
     let Some(k) = copies::find_copy(book, d, s) else {
         return layout::refused(refusal::NOT_TAKEN);
     };
-    let h = blocks::load(book, k);
+    let h = blocks::load(blocks::as_book(book), k);
     if h.count <= i {
         return layout::refused(refusal::OUT_OF_RANGE);
     }

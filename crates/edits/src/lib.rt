@@ -77,7 +77,7 @@ fn store_held(book: &mut [u8], k: usize, h: Held)
     requires fits { Fits h }
     ensures { book.new ≡ put_block k (holding (Some (held_content h))) book.old }
 {
-    blocks::store(book, k, h.purge, &h.places[..h.count]);
+    blocks::store(blocks::as_book_mut(book), k, h.purge, &h.places[..h.count]);
 }
 
 // Another purge minute of a draft's copy: the one that DDHHMM gives.
@@ -92,7 +92,7 @@ pub fn set_purge(book: &mut [u8], d: usize, s: usize, time: Stamp) -> Reply
     let Some(k) = copies::find_copy(book, d, s) else {
         return layout::refused(refusal::NOT_TAKEN);
     };
-    let h = blocks::load(book, k);
+    let h = blocks::load(blocks::as_book(book), k);
     let issue = codes::wide(blocks::number_at(book, 0));
     let Some(minute) = calendar::purge_of(issue, time) else {
         return layout::refused(refusal::WRONG_TIME);
@@ -117,7 +117,7 @@ pub fn add(book: &mut [u8], d: usize, s: usize, p: usize) -> Reply
     let Some(k) = copies::find_copy(book, d, s) else {
         return layout::refused(refusal::NOT_TAKEN);
     };
-    let h = blocks::load(book, k);
+    let h = blocks::load(blocks::as_book(book), k);
     let place = p as u32;
     if has_place(&h, place) {
         return Reply::Was(true);
@@ -142,7 +142,7 @@ pub fn remove(book: &mut [u8], d: usize, s: usize, p: usize) -> Reply
     let Some(k) = copies::find_copy(book, d, s) else {
         return layout::refused(refusal::NOT_TAKEN);
     };
-    let h = blocks::load(book, k);
+    let h = blocks::load(blocks::as_book(book), k);
     let place = p as u32;
     if !has_place(&h, place) {
         return Reply::Was(false);

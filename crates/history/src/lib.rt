@@ -16,6 +16,7 @@ ghost use Rattle.moves.specs.Undo.{with_segments};
 ghost use Rattle.history.specs.LastStep.{LastStep};
 ghost use Rattle.steps.specs.Calls as calls;
 
+use blocks::BookBytes;
 use layout::{Changed, Reply};
 
 // Segments, ascending, each with the block of a draft or a step that holds what the segment is to hold.
@@ -39,8 +40,8 @@ fn segments(found: Found) -> Changed
 }
 
 // The segments that were found hold what their blocks hold.
-fn put_blocks(book: &mut [u8], found: Found)
-    requires { (length book.old ≡ book_length) × AllPlaced block_count found }
+fn put_blocks(book: &mut BookBytes, found: Found)
+    requires { AllPlaced block_count found }
     ensures { (b : Book) → Lies book.old b → (cs : List Copy) → Finds b found cs → Lies book.new (with_segments b (stored cs b.segments)) }
 {
     match found {
@@ -56,8 +57,8 @@ fn put_blocks(book: &mut [u8], found: Found)
 }
 
 // The same, and the drafts that took one of them turn stale.
-fn replace(book: &mut [u8], found: Found)
-    requires { (length book.old ≡ book_length) × AllPlaced block_count found }
+fn replace(book: &mut BookBytes, found: Found)
+    requires { AllPlaced block_count found }
     ensures { (b : Book) → Lies book.old b → (issue n : ℕ) → All (FineDraft issue n) b.drafts → (cs : List Copy) → Finds b found cs → Lies book.new (with_stored b cs) }
 {
     put_blocks(book, found);
@@ -67,8 +68,8 @@ fn replace(book: &mut [u8], found: Found)
 
 // ---- commit
 // Whether the copy in block k differs from segment s; byte 0 names no segment.
-fn differs(book: &[u8], s: usize, k: usize) -> bool
-    requires { (length book.now ≡ book_length) × (s < block_count) × (k < block_count) }
+fn differs(book: &BookBytes, s: usize, k: usize) -> bool
+    requires { (s < block_count) × (k < block_count) }
     ensures { result ≡ differing book.now s k }
 {
     if s == 0 {
@@ -98,20 +99,20 @@ fn pick(a: bool, b: bool, x: usize, i: usize, y: usize, j: usize) -> Found
 }
 
 // The changed segments of draft d, with the blocks of their copies.
-fn changes_in(book: &[u8], d: usize) -> Found
-    requires { (length book.now ≡ book_length) × (1 ≤ d) × (d ≤ 4) × (get_or book.now (5 + 4 * d) 0 ≤ 8) × (get_or book.now (6 + 4 * d) 0 ≤ 8) }
+fn changes_in(book: &BookBytes, d: usize) -> Found
+    requires { (1 ≤ d) × (d ≤ 4) × (get_or book.now (5 + 4 * d) 0 ≤ 8) × (get_or book.now (6 + 4 * d) 0 ≤ 8) }
     ensures { result ≡ changes_in book.now d }
 {
-    let x = blocks::size(book[5 + 4 * d]);
-    let y = blocks::size(book[6 + 4 * d]);
+    let x = usize::from(book[5 + 4 * d]);
+    let y = usize::from(book[6 + 4 * d]);
     let a = differs(book, x, 7 + 2 * d);
     let b = differs(book, y, 8 + 2 * d);
     pick(a, b, x, 7 + 2 * d, y, 8 + 2 * d)
 }
 
 // Closes draft d, and stores the check of block 0.
-fn finish(book: &mut [u8], d: usize)
-    requires { (length book.old ≡ book_length) × (1 ≤ d) × (d ≤ 4) }
+fn finish(book: &mut BookBytes, d: usize)
+    requires { (1 ≤ d) × (d ≤ 4) }
     ensures { (b : Book) → Lies book.old b → book.new ≡ bytes_of (with_drafts b (put b.drafts d closed)) }
 {
     moves::close_draft(book, d);
@@ -119,8 +120,8 @@ fn finish(book: &mut [u8], d: usize)
 }
 
 // Commits draft d, which is open and not stale, with the changes that were found in it: a step only if there are any.
-fn commit_found(book: &mut [u8], d: usize, found: Found) -> Changed
-    requires { (length book.old ≡ book_length) × (1 ≤ d) × (d ≤ 4) × (get_or book.old 24 0 ≤ steps_most) × AllPlaced 17 found }
+fn commit_found(book: &mut BookBytes, d: usize, found: Found) -> Changed
+    requires { (1 ≤ d) × (d ≤ 4) × (get_or book.old 24 0 ≤ steps_most) × AllPlaced 17 found }
     ensures { (b : Book) → Lies book.old b → Sound b → (cs : List Copy) → Finds b found cs → Leaves result book.new b d cs }
 {
     let changed = segments(found);
@@ -131,8 +132,8 @@ fn commit_found(book: &mut [u8], d: usize, found: Found) -> Changed
 }
 
 // Commits draft d of a sound book.
-fn commit_sound(book: &mut [u8], d: usize) -> Reply
-    requires { (length book.old ≡ book_length) × (is_sound book.old ≡ true) }
+fn commit_sound(book: &mut BookBytes, d: usize) -> Reply
+    requires { is_sound book.old ≡ true }
     ensures { Does book.old book.new (calls.commit d) result }
 {
     if d < 1 {
@@ -141,11 +142,11 @@ fn commit_sound(book: &mut [u8], d: usize) -> Reply
     if 4 < d {
         return layout::refused(refusal::NO_DRAFT);
     }
-    let open = blocks::size(book[4 + 4 * d]);
+    let open = usize::from(book[4 + 4 * d]);
     if open == 0 {
         return layout::refused(refusal::NO_DRAFT);
     }
-    let stale = blocks::size(book[7 + 4 * d]);
+    let stale = usize::from(book[7 + 4 * d]);
     if stale == 1 {
         return layout::refused(refusal::STALE_DRAFT);
     }
@@ -158,11 +159,10 @@ fn commit_sound(book: &mut [u8], d: usize) -> Reply
 pub fn commit(book: &mut [u8], d: usize) -> Reply
     ensures { Does book.old book.new (calls.commit d) result }
 {
-    if book.len() != 25088 {
+    let Some(book) = book.as_mut_array() else {
         return layout::refused(refusal::WRONG_LENGTH);
-    }
-    let sound = layout::is_sound(book);
-    if !sound {
+    };
+    if !layout::is_sound(book) {
         return layout::refused(refusal::NOT_SOUND);
     }
     commit_sound(book, d)
@@ -170,12 +170,12 @@ pub fn commit(book: &mut [u8], d: usize) -> Reply
 
 // ---- undo
 // The segments of step r, counted from 0, with its blocks; byte 0 names no second one.
-fn step_at(book: &[u8], r: usize) -> Found
-    requires { (length book.now ≡ book_length) × (r < steps_most) }
+fn step_at(book: &BookBytes, r: usize) -> Found
+    requires { r < steps_most }
     ensures { result ≡ step_in book.now r }
 {
-    let first = blocks::size(book[32 + 2 * r]);
-    let second = blocks::size(book[33 + 2 * r]);
+    let first = usize::from(book[32 + 2 * r]);
+    let second = usize::from(book[33 + 2 * r]);
     if second == 0 {
         return Found::One(first, 17 + 2 * r);
     }
@@ -183,8 +183,8 @@ fn step_at(book: &[u8], r: usize) -> Found
 }
 
 // Undoes the newest step: step r, counted from 0.
-fn undo_step(book: &mut [u8], r: usize) -> Changed
-    requires { (length book.old ≡ book_length) × LastStep book.old r }
+fn undo_step(book: &mut BookBytes, r: usize) -> Changed
+    requires { LastStep book.old r }
     ensures { PutsBack result book.new (book_of book.old) (step_of book.old r) }
 {
     let found = step_at(book, r);
@@ -198,14 +198,13 @@ fn undo_step(book: &mut [u8], r: usize) -> Changed
 pub fn undo(book: &mut [u8]) -> Reply
     ensures { Does book.old book.new calls.undo result }
 {
-    if book.len() != 25088 {
+    let Some(book) = book.as_mut_array() else {
         return layout::refused(refusal::WRONG_LENGTH);
-    }
-    let sound = layout::is_sound(book);
-    if !sound {
+    };
+    if !layout::is_sound(book) {
         return layout::refused(refusal::NOT_SOUND);
     }
-    let n = blocks::size(book[24]);
+    let n = usize::from(book[24]);
     if n == 0 {
         return layout::refused(refusal::NO_STEP);
     }

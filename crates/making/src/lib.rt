@@ -3,19 +3,19 @@
 
 ghost use Rattle.std.specs.Prelude.{◌≡◌, true, [], ◌<◌, length};
 ghost use Rattle.laws.specs.Lists.{All};
-ghost use Rattle.blocks.specs.Block.{book_length};
 ghost use Rattle.segments.specs.Seen.{segments_held, Sized};
 ghost use Rattle.layout.specs.Tests.{is_sound};
 ghost use Rattle.making.specs.Fill.{contents_from, Filled, Storable, Indexed};
 ghost use Rattle.making.specs.Make.{Makes, WritesOn};
 
+use blocks::BookBytes;
 use bulletin::Reading;
 use refusal::{Refusal, Verdict};
 use segments::Segments;
 use writing::Written;
 
 // Fills the blocks of a book whose blocks are all unused: block i + 1 with the content of segment i, whose places are kept from 120 * i on.
-fn fill(book: &mut [u8], kept: &[u32], segments: Segments)
+fn fill(book: &mut BookBytes, kept: &[u32], segments: Segments)
     requires filled { Filled [] book.old }
     requires kept_len { length kept.now ≡ 960 }
     requires sized { Sized segments × All Storable (segments_held segments) }
@@ -34,8 +34,8 @@ fn fill(book: &mut [u8], kept: &[u32], segments: Segments)
 }
 
 // Writes block 0, an unused one, of a new book with n segments.
-fn write_index(book: &mut [u8], issue: usize, n: usize)
-    requires { (length book.old ≡ book_length) × (n < 9) × (issue < 4294967296) }
+fn write_index(book: &mut BookBytes, issue: usize, n: usize)
+    requires { (n < 9) × (issue < 4294967296) }
     ensures { Indexed book.old issue n book.new }
 {
     blocks::put_number(book, 0, issue as u32);
@@ -53,9 +53,9 @@ fn wrong(number: usize) -> Verdict
 pub fn make(book: &mut [u8], text: &[u8], year: usize, month: usize) -> Verdict
     ensures { Makes book.old book.new text.now year month result }
 {
-    if book.len() != 25088 {
+    let Some(book) = book.as_mut_array() else {
         return wrong(refusal::WRONG_LENGTH);
-    }
+    };
     let mut kept: [u32; 960] = [0; 960];
     let bulletin = bulletin::read_keeping(text, year, month, &mut kept);
     let segments = bulletin.segments;
@@ -78,15 +78,14 @@ fn not_written(number: usize) -> Written
 }
 
 // Writes the block of a segment of a sound book.
-fn write_segment(book: &[u8], s: usize, out: &mut [u8]) -> Written
-    requires book_value { is_sound book.now ≡ true }
-    requires book_len { length book.now ≡ book_length }
+fn write_segment(book: &BookBytes, s: usize, out: &mut [u8]) -> Written
+    requires { is_sound book.now ≡ true }
     ensures { WritesOn book.now out.old out.new s result }
 {
     if s < 1 {
         return not_written(refusal::NO_SUCH_SEGMENT);
     }
-    let n = blocks::size(book[4]);
+    let n = usize::from(book[4]);
     if n < s {
         return not_written(refusal::NO_SUCH_SEGMENT);
     }
@@ -101,9 +100,9 @@ fn write_segment(book: &[u8], s: usize, out: &mut [u8]) -> Written
 pub fn write(book: &[u8], s: usize, out: &mut [u8]) -> Written
     ensures { WritesOn book.now out.old out.new s result }
 {
-    if book.len() != 25088 {
+    let Some(book) = book.as_array() else {
         return not_written(refusal::WRONG_LENGTH);
-    }
+    };
     if layout::is_sound(book) {
         return write_segment(book, s, out);
     }

@@ -20,11 +20,11 @@ returns-then-not-opened c = let l = c.args.book.now in
     search (drop_shut, y, rules)
 
 pub close_draft-requires : goal.close_draft-requires
-close_draft-requires c = (search rules, search (drop_from, rules), search (drop_to, rules))
+close_draft-requires c = (search (drop_from, rules), search (drop_to, rules))
 
 pub returns : goal.returns
 unfolding Bytes
 returns c = let l = c.args.book.now in
     let y : Bytes l = λ i. omega (arith, c.slice_known-1.given i) in
     drop_does l _ _ c.is_open-opened.ensures y c.if-book-ne25088.false _ c.is_sound-sound.ensures (ap not c.if-not-sound.false) _
-    (ap not c.if-not-opened.false) c.close_draft.ensures _ c.seal_index.ensures
+    (ap not c.if-not-opened.false) (rw c.as_book_mut-book.ensures.value at c.close_draft.ensures) _ c.seal_index.ensures

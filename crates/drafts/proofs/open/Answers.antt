@@ -19,7 +19,7 @@ returns-in_default c = let l = c.args.book.now in
     search (open_none, y, rules)
 
 pub open_draft-requires : goal.open_draft-requires
-open_draft-requires c = (search rules, search (open_from, rules), search (open_to, rules))
+open_draft-requires c = (search (open_from, rules), search (open_to, rules))
 
 pub returns : goal.returns
 unfolding Bytes
@@ -27,4 +27,4 @@ returns c = let l = c.args.book.now in
     let y : Bytes l = λ i. omega (arith, c.slice_known-1.given i) in
     open_does l c.if-book-ne25088.false _ c.is_sound-sound.ensures (ap not c.if-not-sound.false) _
     c.lowest_closed.ensures _
-    c.in-Some.is y _ c.open_draft.ensures _ c.seal_index.ensures
+    c.in-Some.is y _ (rw c.as_book_mut-book.ensures.value at c.open_draft.ensures) _ c.seal_index.ensures

@@ -20,14 +20,21 @@ returns-in_default-find_copy c = let l = c.args.book.now in
     let y : Bytes l = λ i. omega (arith, c.shared_slice_known-1.given i) in
     search (absent_read, y, rules)
 
+pub as_book-requires : goal.as_book-requires
+unfolding Bytes
+as_book-requires c = let l = c.args.book.now in
+    let y : Bytes l = λ i. omega (arith, c.shared_slice_known-1.given i) in
+    search (load_long, y, rules)
+
 pub load-h-requires : goal.load-h-requires
 unfolding Bytes
 load-h-requires c = let l = c.args.book.now in
     let y : Bytes l = λ i. omega (arith, c.shared_slice_known-1.given i) in
-    (search (load_long, y, rules), search (load_block, y, rules), search (load_few, y, rules))
+    (search (load_block, y, rules), rw c.as_book.ensures (search (load_few, y, rules)))
 
 pub returns : goal.returns
 unfolding Bytes
 returns c = let l = c.args.book.now in
     let y : Bytes l = λ i. omega (arith, c.shared_slice_known-1.given i) in
-    search (reads_count, working, y, rules)
+    let holds = rw c.as_book.ensures at c.load-h.ensures.is in
+    search (reads_count, working, y, holds, rules)

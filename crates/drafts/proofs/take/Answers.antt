@@ -32,9 +32,11 @@ returns-then-n-ge2 c = let l = c.args.book.now in
     let y : Bytes l = λ i. omega (arith, c.slice_known-1.given i) in
     search (take_full, y, rules)
 
+pub as_book_mut-book-requires : goal.as_book_mut-book-requires
+as_book_mut-book-requires c = search (take_long, rules)
+
 pub take_copy-requires : goal.take_copy-requires
 take_copy-requires c = (
-  search (take_long, rules),
   search (take_from, rules),
   search (take_to, rules),
   search rules,
@@ -42,15 +44,10 @@ take_copy-requires c = (
   search (take_segment_to, rules),
 )
 
-pub seal_index-requires : goal.seal_index-requires
-seal_index-requires c = let l = c.args.book.now in
-    let long = take_long l _ _ _ c.in_default.is c.admit-verdict.ensures in
-    search (long, rules)
-
 pub returns : goal.returns
 unfolding Bytes
 returns c = let l = c.args.book.now in
     let y : Bytes l = λ i. omega (arith, c.slice_known-1.given i) in
     take_does l y _ _ _ c.in_default.is c.admit-verdict.ensures _ c.find_copy.ensures
     c.in-None.is _ c.count_taken-n.ensures c.if-n-ge2.false _
-    c.take_copy.ensures _ c.seal_index.ensures
+    (rw c.as_book_mut-book.ensures.value at c.take_copy.ensures) _ c.seal_index.ensures

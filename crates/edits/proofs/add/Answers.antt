@@ -21,11 +21,17 @@ returns-in_default-find_copy c = let l = c.args.book.now in
     let y : Bytes l = λ i. omega (arith, c.slice_known-1.given i) in
     search (absent_does, ranging, y, rules)
 
+pub as_book-requires : goal.as_book-requires
+unfolding Bytes
+as_book-requires c = let l = c.args.book.now in
+    let y : Bytes l = λ i. omega (arith, c.slice_known-1.given i) in
+    search (load_long, y, rules)
+
 pub load-h-requires : goal.load-h-requires
 unfolding Bytes
 load-h-requires c = let l = c.args.book.now in
     let y : Bytes l = λ i. omega (arith, c.slice_known-1.given i) in
-    (search (load_long, y, rules), search (load_block, y, rules), search (load_few, y, rules))
+    (search (load_block, y, rules), rw c.as_book.ensures (search (load_few, y, rules)))
 
 pub overflow_cast-place : goal.overflow_cast-place
 overflow_cast-place c = search (place_low, rules)
@@ -36,7 +42,7 @@ returns-then-has_place c = let l = c.args.book.now in
     let y : Bytes l = λ i. omega (arith, c.slice_known-1.given i) in
     let w = working l y _ _ _ _ c.in_default.is c.admit-verdict.ensures _ c.find_copy.ensures _ c.in-Some.is in
     let r = ranging l _ _ _ _ c.in_default.is c.admit-verdict.ensures in
-    add_old l _ _ _ w _ c.load-h.ensures.fits c.load-h.ensures.is _ _ refl r _ c.has_place.ensures c.if-has_place.true
+    add_old l _ _ _ w _ c.load-h.ensures.fits (rw c.as_book.ensures at c.load-h.ensures.is) _ _ refl r _ c.has_place.ensures c.if-has_place.true
 
 pub returns-then-h-ge120 : goal.returns-then-h-ge120
 unfolding Bytes
@@ -44,14 +50,14 @@ returns-then-h-ge120 c = let l = c.args.book.now in
     let y : Bytes l = λ i. omega (arith, c.slice_known-1.given i) in
     let w = working l y _ _ _ _ c.in_default.is c.admit-verdict.ensures _ c.find_copy.ensures _ c.in-Some.is in
     let r = ranging l _ _ _ _ c.in_default.is c.admit-verdict.ensures in
-    add_full l _ _ _ w _ c.load-h.ensures.fits c.load-h.ensures.is _ _ refl r _ c.has_place.ensures c.if-has_place.false c.if-h-ge120.true _ c.refused-then-h-ge120.ensures
+    add_full l _ _ _ w _ c.load-h.ensures.fits (rw c.as_book.ensures at c.load-h.ensures.is) _ _ refl r _ c.has_place.ensures c.if-has_place.false c.if-h-ge120.true _ c.refused-then-h-ge120.ensures
 
 pub with_place-new-requires : goal.with_place-new-requires
 unfolding Bytes
 with_place-new-requires c = let l = c.args.book.now in
     let y : Bytes l = λ i. omega (arith, c.slice_known-1.given i) in
     let w = working l y _ _ _ _ c.in_default.is c.admit-verdict.ensures _ c.find_copy.ensures _ c.in-Some.is in
-    record { sound = search rules; room = search rules; ascending = held_up l _ _ _ w _ c.load-h.ensures.fits c.load-h.ensures.is; absent = sym c.has_place.ensures ∙ c.if-has_place.false }
+    record { sound = search rules; room = search rules; ascending = held_up l _ _ _ w _ c.load-h.ensures.fits (rw c.as_book.ensures at c.load-h.ensures.is); absent = sym c.has_place.ensures ∙ c.if-has_place.false }
 
 pub store_held-requires : goal.store_held-requires
 unfolding Bytes
@@ -66,4 +72,4 @@ returns c = let l = c.args.book.now in
     let y : Bytes l = λ i. omega (arith, c.slice_known-1.given i) in
     let w = working l y _ _ _ _ c.in_default.is c.admit-verdict.ensures _ c.find_copy.ensures _ c.in-Some.is in
     let r = ranging l _ _ _ _ c.in_default.is c.admit-verdict.ensures in
-    add_new l _ _ _ w _ c.load-h.ensures.fits c.load-h.ensures.is _ _ refl r _ c.has_place.ensures c.if-has_place.false c.if-h-ge120.false _ c.with_place-new.ensures.is c.with_place-new.ensures.fits _ c.store_held.ensures
+    add_new l _ _ _ w _ c.load-h.ensures.fits (rw c.as_book.ensures at c.load-h.ensures.is) _ _ refl r _ c.has_place.ensures c.if-has_place.false c.if-h-ge120.false _ c.with_place-new.ensures.is c.with_place-new.ensures.fits _ c.store_held.ensures

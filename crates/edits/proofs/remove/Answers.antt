@@ -22,11 +22,17 @@ returns-in_default-find_copy c = let l = c.args.book.now in
     let y : Bytes l = λ i. omega (arith, c.slice_known-1.given i) in
     search (absent_does, ranging, y, rules)
 
+pub as_book-requires : goal.as_book-requires
+unfolding Bytes
+as_book-requires c = let l = c.args.book.now in
+    let y : Bytes l = λ i. omega (arith, c.slice_known-1.given i) in
+    search (load_long, y, rules)
+
 pub load-h-requires : goal.load-h-requires
 unfolding Bytes
 load-h-requires c = let l = c.args.book.now in
     let y : Bytes l = λ i. omega (arith, c.slice_known-1.given i) in
-    (search (load_long, y, rules), search (load_block, y, rules), search (load_few, y, rules))
+    (search (load_block, y, rules), rw c.as_book.ensures (search (load_few, y, rules)))
 
 pub overflow_cast-place : goal.overflow_cast-place
 overflow_cast-place c = search (place_low, rules)
@@ -37,7 +43,7 @@ returns-then-not-has_place c = let l = c.args.book.now in
     let y : Bytes l = λ i. omega (arith, c.slice_known-1.given i) in
     let w = working l y _ _ _ _ c.in_default.is c.admit-verdict.ensures _ c.find_copy.ensures _ c.in-Some.is in
     let r = ranging l _ _ _ _ c.in_default.is c.admit-verdict.ensures in
-    remove_none l _ _ _ w _ c.load-h.ensures.fits c.load-h.ensures.is _ _ refl r _ c.has_place.ensures (ap not c.if-not-has_place.true)
+    remove_none l _ _ _ w _ c.load-h.ensures.fits (rw c.as_book.ensures at c.load-h.ensures.is) _ _ refl r _ c.has_place.ensures (ap not c.if-not-has_place.true)
 
 pub returns-then-h-eq1 : goal.returns-then-h-eq1
 unfolding Bytes
@@ -45,7 +51,7 @@ returns-then-h-eq1 c = let l = c.args.book.now in
     let y : Bytes l = λ i. omega (arith, c.slice_known-1.given i) in
     let w = working l y _ _ _ _ c.in_default.is c.admit-verdict.ensures _ c.find_copy.ensures _ c.in-Some.is in
     let r = ranging l _ _ _ _ c.in_default.is c.admit-verdict.ensures in
-    remove_only l _ _ _ w _ c.load-h.ensures.fits c.load-h.ensures.is _ _ refl r _ c.has_place.ensures (ap not c.if-not-has_place.false) c.if-h-eq1.true _ c.refused-then-h-eq1.ensures
+    remove_only l _ _ _ w _ c.load-h.ensures.fits (rw c.as_book.ensures at c.load-h.ensures.is) _ _ refl r _ c.has_place.ensures (ap not c.if-not-has_place.false) c.if-h-eq1.true _ c.refused-then-h-eq1.ensures
 
 pub store_held-requires : goal.store_held-requires
 unfolding Bytes
@@ -60,4 +66,4 @@ returns c = let l = c.args.book.now in
     let y : Bytes l = λ i. omega (arith, c.slice_known-1.given i) in
     let w = working l y _ _ _ _ c.in_default.is c.admit-verdict.ensures _ c.find_copy.ensures _ c.in-Some.is in
     let r = ranging l _ _ _ _ c.in_default.is c.admit-verdict.ensures in
-    remove_old l _ _ _ w _ c.load-h.ensures.fits c.load-h.ensures.is _ _ refl r _ c.has_place.ensures (ap not c.if-not-has_place.false) c.if-h-eq1.false _ c.without_place-new.ensures.is c.without_place-new.ensures.fits _ c.store_held.ensures
+    remove_old l _ _ _ w _ c.load-h.ensures.fits (rw c.as_book.ensures at c.load-h.ensures.is) _ _ refl r _ c.has_place.ensures (ap not c.if-not-has_place.false) c.if-h-eq1.false _ c.without_place-new.ensures.is c.without_place-new.ensures.fits _ c.store_held.ensures

@@ -22,11 +22,17 @@ returns-in_default-find_copy c = let l = c.args.book.now in
     let y : Bytes l = λ i. omega (arith, c.slice_known-1.given i) in
     search (tested_absent, y, rules)
 
+pub as_book-requires : goal.as_book-requires
+unfolding Bytes
+as_book-requires c = let l = c.args.book.now in
+    let y : Bytes l = λ i. omega (arith, c.slice_known-1.given i) in
+    search (load_long, y, rules)
+
 pub load-h-requires : goal.load-h-requires
 unfolding Bytes
 load-h-requires c = let l = c.args.book.now in
     let y : Bytes l = λ i. omega (arith, c.slice_known-1.given i) in
-    (search (load_long, y, rules), search (load_block, y, rules), search (load_few, y, rules))
+    (search (load_block, y, rules), rw c.as_book.ensures (search (load_few, y, rules)))
 
 pub number_at-requires : goal.number_at-requires
 unfolding Bytes
@@ -41,7 +47,7 @@ returns-in_default-purge_of c = let l = c.args.book.now in
     let y : Bytes l = λ i. omega (arith, c.slice_known-1.given i) in
     let w = working l y _ _ _ _ c.in_default.is c.admit-verdict.ensures _ c.find_copy.ensures _ c.in-Some.is in
     let r = ranging l _ _ _ _ c.in_default.is c.admit-verdict.ensures in
-    purge_none l _ _ _ w _ c.load-h.ensures.fits c.load-h.ensures.is _ _ r c.is_time-in_range.ensures _ (c.wide-issue.ensures ∙ c.number_at.ensures) _ c.purge_of.ensures c.in_default-purge_of.is _ c.refused-in_default-purge_of.ensures
+    purge_none l _ _ _ w _ c.load-h.ensures.fits (rw c.as_book.ensures at c.load-h.ensures.is) _ _ r c.is_time-in_range.ensures _ (c.wide-issue.ensures ∙ c.number_at.ensures) _ c.purge_of.ensures c.in_default-purge_of.is _ c.refused-in_default-purge_of.ensures
 
 pub overflow_cast-new : goal.overflow_cast-new
 overflow_cast-new c = search (minute_low, rules)
@@ -59,4 +65,4 @@ returns c = let l = c.args.book.now in
     let y : Bytes l = λ i. omega (arith, c.slice_known-1.given i) in
     let w = working l y _ _ _ _ c.in_default.is c.admit-verdict.ensures _ c.find_copy.ensures _ c.in-Some.is in
     let r = ranging l _ _ _ _ c.in_default.is c.admit-verdict.ensures in
-    purge_some l _ _ _ w _ c.load-h.ensures.fits c.load-h.ensures.is _ _ r c.is_time-in_range.ensures _ (c.wide-issue.ensures ∙ c.number_at.ensures) _ c.purge_of.ensures _ c.in-Some-purge_of.is _ refl _ c.store_held.ensures
+    purge_some l _ _ _ w _ c.load-h.ensures.fits (rw c.as_book.ensures at c.load-h.ensures.is) _ _ r c.is_time-in_range.ensures _ (c.wide-issue.ensures ∙ c.number_at.ensures) _ c.purge_of.ensures _ c.in-Some-purge_of.is _ refl _ c.store_held.ensures

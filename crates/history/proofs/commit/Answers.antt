@@ -1,16 +1,11 @@
 use mathlib.Core.Path.{sym, ◌∙◌}
-use native.Mathlib.Omega.{arith}
 use Rattle.history.proofs.CommitRule.{commit_short, commit_unsound}
-use Rattle.std.proofs.Common.{rules}
 use Rattle.history.proofs.commit.Goals as goal
 
-pub returns-then-book-ne25088 : goal.returns-then-book-ne25088
-returns-then-book-ne25088 c = search (commit_short, rules)
+pub returns-in_default : goal.returns-in_default
+returns-in_default c = commit_short _ _ _ c.in_default.ensures.cases c.refused.ensures
 
-pub returns-then-not-sound : goal.returns-then-not-sound
-returns-then-not-sound c = let s = c.args in
-    commit_unsound s.book.now s.d c.refused-then-not-sound.result (omega arith)
-    (sym c.is_sound-sound.ensures ∙ c.if-not-sound.true) c.refused-then-not-sound.ensures
-
-pub commit_sound-requires : goal.commit_sound-requires
-commit_sound-requires c = (omega arith, sym c.is_sound-sound.ensures ∙ c.if-not-sound.false)
+pub returns-then-not-is_sound : goal.returns-then-not-is_sound
+returns-then-not-is_sound c = let whole = c.in-Some.ensures.cases in
+    rw whole.same
+    (commit_unsound c.args.book.now c.args.d _ whole.long (sym (rw whole.same at c.is_sound.ensures) ∙ c.if-not-is_sound.true) c.refused-then-not-is_sound.ensures)

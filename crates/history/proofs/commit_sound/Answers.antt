@@ -6,47 +6,47 @@ use Rattle.history.proofs.commit_sound.Goals as goal
 pub returns-then-d-lt1 : goal.returns-then-d-lt1
 unfolding Bytes
 returns-then-d-lt1 c = let l = c.args.book.now in
-    let y : Bytes l = λ i. omega (arith, c.slice_known-1.given i) in
-    commit_low l c.args.d c.refused.result y c.requires.0 c.requires.1 (omega arith) c.refused.ensures
+    let y : Bytes l = c.fits-book in
+    commit_low l c.args.d c.refused.result y c.told-book c.requires (omega arith) c.refused.ensures
 
 pub returns-then-d-gt4 : goal.returns-then-d-gt4
 unfolding Bytes
 returns-then-d-gt4 c = let l = c.args.book.now in
-    let y : Bytes l = λ i. omega (arith, c.slice_known-1.given i) in
-    commit_high l c.args.d c.refused-then-d-gt4.result y c.requires.0 c.requires.1 (omega arith) c.refused-then-d-gt4.ensures
+    let y : Bytes l = c.fits-book in
+    commit_high l c.args.d c.refused-then-d-gt4.result y c.told-book c.requires (omega arith) c.refused-then-d-gt4.ensures
 
 pub returns-then-open-eq0 : goal.returns-then-open-eq0
 unfolding Bytes
 returns-then-open-eq0 c = let l = c.args.book.now in
-    let y : Bytes l = λ i. omega (arith, c.slice_known-1.given i) in
-    commit_shut l c.args.d c.refused-then-open-eq0.result y c.requires.0 c.requires.1 (omega arith) (omega arith)
-    c.size-open.result c.size-open.ensures.0 c.if-open-eq0.true c.refused-then-open-eq0.ensures
+    let y : Bytes l = c.fits-book in
+    commit_shut l c.args.d c.refused-then-open-eq0.result y c.told-book c.requires (omega arith) (omega arith)
+    c.from-open.result c.from-open.ensures c.if-open-eq0.true c.refused-then-open-eq0.ensures
 
 pub returns-then-stale-eq1 : goal.returns-then-stale-eq1
 unfolding Bytes
 returns-then-stale-eq1 c = let l = c.args.book.now in
-    let y : Bytes l = λ i. omega (arith, c.slice_known-1.given i) in
-    commit_stale l c.args.d c.refused-then-stale-eq1.result y c.requires.0 c.requires.1 (omega arith) (omega arith)
-    c.size-open.result c.size-stale.result c.size-open.ensures.0 c.if-open-eq0.false c.size-stale.ensures.0 c.if-stale-eq1.true
+    let y : Bytes l = c.fits-book in
+    commit_stale l c.args.d c.refused-then-stale-eq1.result y c.told-book c.requires (omega arith) (omega arith)
+    c.from-open.result c.from-stale.result c.from-open.ensures c.if-open-eq0.false c.from-stale.ensures c.if-stale-eq1.true
     c.refused-then-stale-eq1.ensures
 
 pub changes_in-found-requires : goal.changes_in-found-requires
 changes_in-found-requires c = let l = c.args.book.now in
     let d = c.args.d in
-    let first = first_low l d c.requires.1 (omega arith) (omega arith) in
-    let second = second_low l d c.requires.1 (omega arith) (omega arith) in
-    (c.requires.0, omega arith, omega arith, first, second)
+    let first = first_low l d c.requires (omega arith) (omega arith) in
+    let second = second_low l d c.requires (omega arith) (omega arith) in
+    (omega arith, omega arith, first, second)
 
 pub commit_found-changed-requires : goal.commit_found-changed-requires
 commit_found-changed-requires c = let l = c.args.book.now in
-    let placed = found_placed l c.args.d _ c.requires.1 (omega arith) (omega arith) c.changes_in-found.ensures in
-    (c.requires.0, omega arith, omega arith, steps_low l c.requires.1, placed)
+    let placed = found_placed l c.args.d _ c.requires (omega arith) (omega arith) c.changes_in-found.ensures in
+    (omega arith, omega arith, steps_low l c.requires, placed)
 
 pub returns : goal.returns
 unfolding Bytes
 returns c = let l = c.args.book.now in
-    let y : Bytes l = λ i. omega (arith, c.slice_known-1.given i) in
-    commit_done l _ c.args.d c.changes_in-found.result c.commit_found-changed.result y c.requires.0 c.requires.1
+    let y : Bytes l = c.fits-book in
+    commit_done l _ c.args.d c.changes_in-found.result c.commit_found-changed.result y c.told-book c.requires
     (omega arith) (omega arith)
-    c.size-open.result c.size-stale.result c.size-open.ensures.0 c.if-open-eq0.false c.size-stale.ensures.0 c.if-stale-eq1.false
+    c.from-open.result c.from-stale.result c.from-open.ensures c.if-open-eq0.false c.from-stale.ensures c.if-stale-eq1.false
     c.changes_in-found.ensures c.commit_found-changed.ensures

@@ -1,4 +1,4 @@
-use Rattle.making.proofs.Filling.{filling_start, filling_fits, filling_low, filling_end, filling_few, filling_on, filling_done, filling_long}
+use Rattle.making.proofs.Filling.{filling_start, filling_fits, filling_low, filling_end, filling_few, filling_on, filling_done}
 use Rattle.std.proofs.Common.{rules}
 use Rattle.making.proofs.fill.Goals as goal
 
@@ -15,13 +15,10 @@ pub slice_bounds-store-end : goal.slice_bounds-store-end
 slice_bounds-store-end c = search (filling_end, rules)
 
 pub store-requires : goal.store-requires
-store-requires c = (search (filling_long, rules), search rules, search (filling_few, rules))
+store-requires c = (search rules, search (filling_few, rules))
 
 pub loop-i-preserved : goal.loop-i-preserved
 loop-i-preserved c = filling_on _ _ _ _ _ c.loop-i.invariant (search rules) _ (search rules) _ c.store.ensures
-
-pub shape_of-book : goal.shape_of-book
-shape_of-book c = search (filling_long, rules)
 
 pub returns : goal.returns
 returns c = search (filling_done, rules)

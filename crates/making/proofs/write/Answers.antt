@@ -2,11 +2,11 @@ use Rattle.making.proofs.Writing.{write_short, write_broken}
 use Rattle.std.proofs.Common.{rules}
 use Rattle.making.proofs.write.Goals as goal
 
-pub returns-then-book-ne25088 : goal.returns-then-book-ne25088
-returns-then-book-ne25088 c = search (write_short, rules)
-
-pub write_segment-requires-clause-book_value : goal.write_segment-requires-clause-book_value
-write_segment-requires-clause-book_value c = cc
+pub returns-in_default : goal.returns-in_default
+returns-in_default c = let short = c.in_default.ensures.cases in search (write_short, short, rules)
 
 pub returns : goal.returns
-returns c = search (write_broken, rules)
+returns c = let whole = c.in-Some.ensures.cases in
+    let long = whole.long in
+    let told = rw whole.same at c.is_sound.ensures in
+    search (write_broken, long, told, rules)
