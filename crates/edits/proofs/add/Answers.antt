@@ -58,7 +58,6 @@ returns-then-has_place c = let l = c.args.book.now in
     let y : Bytes l = λ i. omega (arith, c.slice_known-1.given i) in
     let is : c.admit.result ≡ Ok tt = c.in_ok-admit.was in
     let q : c.find_copy.result ≡ Some c.in_ok-k.k = grind arith in
-    let given : c.purge_of.result ≡ Some c.in_ok-minute.minute = grind arith in
     let w = working l y _ _ _ _ is c.admit.ensures _ c.find_copy.ensures _ q in
     let r = ranging l _ _ _ _ is c.admit.ensures in
     add_old l _ _ _ w _ c.load-h.ensures.fits (rw c.as_book.ensures at c.load-h.ensures.is) _ _ refl r _ c.has_place.ensures c.if-has_place.true
@@ -69,7 +68,6 @@ returns-then-h-ge120 c = let l = c.args.book.now in
     let y : Bytes l = λ i. omega (arith, c.slice_known-1.given i) in
     let is : c.admit.result ≡ Ok tt = c.in_ok-admit.was in
     let q : c.find_copy.result ≡ Some c.in_ok-k.k = grind arith in
-    let given : c.purge_of.result ≡ Some c.in_ok-minute.minute = grind arith in
     let w = working l y _ _ _ _ is c.admit.ensures _ c.find_copy.ensures _ q in
     let r = ranging l _ _ _ _ is c.admit.ensures in
     add_full l _ _ _ w _ c.load-h.ensures.fits (rw c.as_book.ensures at c.load-h.ensures.is) _ _ refl r _ c.has_place.ensures c.if-has_place.false c.if-h-ge120.true _ c.into.ensures
@@ -80,7 +78,6 @@ with_place-new-requires c = let l = c.args.book.now in
     let y : Bytes l = λ i. omega (arith, c.slice_known-1.given i) in
     let is : c.admit.result ≡ Ok tt = c.in_ok-admit.was in
     let q : c.find_copy.result ≡ Some c.in_ok-k.k = grind arith in
-    let given : c.purge_of.result ≡ Some c.in_ok-minute.minute = grind arith in
     let w = working l y _ _ _ _ is c.admit.ensures _ c.find_copy.ensures _ q in
     record { sound = search rules; room = search rules; ascending = held_up l _ _ _ w _ c.load-h.ensures.fits (rw c.as_book.ensures at c.load-h.ensures.is); absent = sym c.has_place.ensures ∙ c.if-has_place.false }
 
@@ -90,7 +87,6 @@ store_held-requires c = let l = c.args.book.now in
     let y : Bytes l = λ i. omega (arith, c.slice_known-1.given i) in
     let is : c.admit.result ≡ Ok tt = c.in_ok-admit.was in
     let q : c.find_copy.result ≡ Some c.in_ok-k.k = grind arith in
-    let given : c.purge_of.result ≡ Some c.in_ok-minute.minute = grind arith in
     let w = working l y _ _ _ _ is c.admit.ensures _ c.find_copy.ensures _ q in
     record { book_len = (w.long, w.block); fits = search rules }
 
@@ -100,7 +96,6 @@ returns c = let l = c.args.book.now in
     let y : Bytes l = λ i. omega (arith, c.slice_known-1.given i) in
     let is : c.admit.result ≡ Ok tt = c.in_ok-admit.was in
     let q : c.find_copy.result ≡ Some c.in_ok-k.k = grind arith in
-    let given : c.purge_of.result ≡ Some c.in_ok-minute.minute = grind arith in
     let w = working l y _ _ _ _ is c.admit.ensures _ c.find_copy.ensures _ q in
     let r = ranging l _ _ _ _ is c.admit.ensures in
     add_new l _ _ _ w _ c.load-h.ensures.fits (rw c.as_book.ensures at c.load-h.ensures.is) _ _ refl r _ c.has_place.ensures c.if-has_place.false c.if-h-ge120.false _ c.with_place-new.ensures.is c.with_place-new.ensures.fits _ c.store_held.ensures

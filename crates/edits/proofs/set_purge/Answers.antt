@@ -65,7 +65,6 @@ number_at-requires c = let l = c.args.book.now in
     let y : Bytes l = λ i. omega (arith, c.slice_known-1.given i) in
     let is : c.admit.result ≡ Ok tt = c.in_ok-admit.was in
     let q : c.find_copy.result ≡ Some c.in_ok-k.k = grind arith in
-    let given : c.purge_of.result ≡ Some c.in_ok-minute.minute = grind arith in
     let w = working l y _ _ _ _ is c.admit.ensures _ c.find_copy.ensures _ q in
     let h : length l ≡ book_length = w.long in omega arith
 
@@ -81,7 +80,6 @@ store_held-requires c = let l = c.args.book.now in
     let y : Bytes l = λ i. omega (arith, c.slice_known-1.given i) in
     let is : c.admit.result ≡ Ok tt = c.in_ok-admit.was in
     let q : c.find_copy.result ≡ Some c.in_ok-k.k = grind arith in
-    let given : c.purge_of.result ≡ Some c.in_ok-minute.minute = grind arith in
     let w = working l y _ _ _ _ is c.admit.ensures _ c.find_copy.ensures _ q in
     record { book_len = (w.long, w.block); fits = record { long = c.load-h.ensures.fits.long; few = c.load-h.ensures.fits.few } }
 
