@@ -6,7 +6,8 @@ use Prim.Native.Nat.{ℕ, zero, suc, ◌+◌, ◌*◌, ◌-◌, ◌≤◌, ◌<�
 use native.Mathlib.Nat.{suc-mul, le_of_suc-le-suc, not-suc-le-zero, suc-ne-zero}
 use native.Mathlib.Omega.{arith}
 use lib.ListN.{length, take, drop, get_or, set, length-drop, take-append-drop}
-use lib.Seq.{get_or-take, get_or-drop, take_at, drop_at, take-add, drop-drop, length-take-le, ext_get_or, get_or-set_same, get_or-set_other}
+use Rattle.blocks.proofs.Chunks.{set_append_right}
+use lib.Seq.{get_or-take, get_or-drop, set-append_left, take_at, drop_at, take-add, drop-drop, length-take-le, ext_get_or, get_or-set_same, get_or-set_other}
 use borrow.Rule.Slice.PartMut.{same_len_mid}
 use Rattle.std.specs.List.{copy_within}
 use Rattle.blocks.specs.Block.{block_of, put_block}
@@ -130,3 +131,18 @@ books_ext n l m hl hm same =
 pub byte_of : (k i : ℕ) (l : List ℕ) → i < 512 → get_or (block_of k l) i 0 ≡ get_or l (k * 512 + i) 0
 unfolding block_of
 byte_of k i l h = get_or-take 512 (drop (k * 512) l) i 0 h ∙ get_or-drop (k * 512) l i 0
+
+-- a byte stored in block k
+pub set_block : (k i v : ℕ) (l : List ℕ) → i < 512 → k * 512 + 512 ≤ length l → set l (k * 512 + i) v ≡ put_block k (set (block_of k l) i v) l
+unfolding block_of put_block
+set_block k i v l h g =
+    let n : ℕ = k * 512 in
+    let p : List ℕ = take n l in
+    let d : List ℕ = drop n l in
+    let e : length p ≡ n = length-take-le n l (omega arith) in
+    let f : length (take 512 d) ≡ 512 = length-take-le 512 d (rw length-drop (omega arith)) in
+    ap (λ (z : List ℕ). set z (n + i) v) (sym (take-append-drop n l))
+    ∙ ap (λ (z : ℕ). set (p ++ d) (z + i) v) (sym e)
+    ∙ set_append_right p d i v
+    ∙ ap (λ (z : List ℕ). p ++ set z i v) (sym (take-append-drop 512 d))
+    ∙ ap (λ (z : List ℕ). p ++ z) (set-append_left (take 512 d) (drop 512 d) i v (omega arith))

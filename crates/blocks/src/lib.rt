@@ -151,12 +151,13 @@ pub fn clear_block(book: &mut BookBytes, k: usize)
     unuse(first_block(rest));
 }
 
-// Makes every block of a book an unused one.
+// Makes every block of a book an unused one. All bytes are cleared at once, which is faster than block by block.
 pub fn clear_book(book: &mut BookBytes)
     ensures { (k : ℕ) → k < block_count → block_of k book.new ≡ holding None }
 {
+    *book = [0; 25088];
     for k in 0..49 {
-        clear_block(book, k);
+        book[k * 512 + 510] = 1;
     }
 }
 

@@ -5,7 +5,7 @@ use Prim.Native.Nat.{ℕ, ◌+◌, ◌-◌, ◌≤◌}
 use native.Mathlib.Omega.{arith}
 use mathlib.Core.Path.{◌≡◌, refl, sym, ap, ◌∙◌}
 use mathlib.Core.List.{List, [], ◌∷◌}
-use mathlib.Core.Bool.{Bool, true, false, cond}
+use mathlib.Core.Bool.{Bool, true, false, cond, ◌||◌}
 use lib.ListN.{length, drop, length-drop}
 use borrow.Author.Tests.{eqb-true}
 use Rattle.laws.proofs.Tests.{by, apart, and_left}
@@ -24,10 +24,14 @@ use Rattle.heading.specs.Paper.{paper_id, paper_named}
 use Rattle.heading.specs.declared.Named.{Named}
 use Rattle.heading.specs.declared.Named.TheVariants as naming
 use Rattle.segments.specs.Search.{from_first, up_to_first, closes}
-use Rattle.segments.specs.Searching.{office_or_close, lines_on, found_lines, LineFrom, Inside}
+use Rattle.segments.specs.Searching.{lines_on, found_lines, LineFrom, Inside}
 use Rattle.bulletin.specs.Mnd.{storm_said, office_storm}
 use Rattle.bulletin.specs.Starts.{from_line3}
 use Rattle.segments.proofs.Seeking.{body_of}
+
+-- ---- an office line, or one that closes the block
+abbrev pub office_or_close : List ℕ → Bool
+office_or_close line = closes line || is_office line
 
 -- ---- the office line is the first line that is one or closes the block, if it does not close it
 first_storm : List Line → Answer (Option StormName)

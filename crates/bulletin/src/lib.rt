@@ -20,13 +20,14 @@ ghost use Rattle.refusal.specs.Answer.{answer_by, answer_of};
 use calendar::Date;
 use heading::{Heading, Named, StormId};
 use refusal::{Reason, Refusal};
-use segments::{Segment, Segments, Sought};
+use segments::{Segment, Segments};
 
 // The storm of the MND block whose lines start at `from`.
 fn read_storm(text: &[u8], from: usize) -> Result<Option<StormId>, Refusal>
     ensures { answer_by (option_map paper_id) result ≡ office_storm (from_first is_office (up_to_first closes (lines_on text.now from))) }
 {
-    let Some(l) = segments::first(text, from, Sought::OfficeOrClose) else {
+    let is_sought = |line: &[u8]| segments::closes(line) || heading::is_office(line);
+    let Some(l) = segments::first(text, from, is_sought) else {
         return Ok(None);
     };
     let line = lines::part(text, l.start, l.end);
@@ -46,7 +47,7 @@ fn first_place(text: &[u8], third: usize, mnd: usize) -> Result<usize, Refusal>
     let l = lines::find_line(text, third).ok_or(Reason::NoSegment.at(text.len()))?;
     let line = lines::part(text, third, l.end);
     if lines::is_blank(line) {
-        return Ok(segments::after_first(text, mnd, Sought::Close));
+        return Ok(segments::after_first(text, mnd, segments::closes));
     }
     if lines::opens_block(line) {
         return Ok(third);
@@ -144,7 +145,7 @@ fn read_below(text: &[u8], top: Top, kept: &mut [u32]) -> Result<Bulletin, Refus
     ensures { Answers text.now (below_of text.now top) kept.old kept.new result }
 {
     let third = top.third;
-    let mnd = segments::after_first(text, third, Sought::Blank);
+    let mnd = segments::after_first(text, third, lines::is_blank);
     let storm = read_storm(text, mnd)?;
     let from = first_place(text, third, mnd)?;
     let head = Head {

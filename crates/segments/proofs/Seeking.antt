@@ -21,40 +21,42 @@ next_is s at = by_order at (length s) (λ h. rw (span_here s at h)) (λ h. rw (s
 pub body_of : (s : List ℕ) (at : ℕ) (f : Option Span) → f ≡ span_at s at → (l : Span) → f ≡ Some l → (line : List ℕ) → line ≡ part s at l.end → line ≡ (line_at s at).body
 body_of s at f e l p line q = q ∙ ap (part s at) (found_end s at f e l p) ∙ part_body s at
 
--- the lines from here on have the answer of the lines from the start on
-pub record Seeks (p : List ℕ → Bool) (s : List ℕ) (from at : ℕ) : Type 0 where
+-- the lines from here on have the answer of the lines from the start on, for each test that is meant
+pub record Seeks (T : (List ℕ → Bool) → Type 0) (s : List ℕ) (from at : ℕ) : Type 0 where
   pub low : from ≤ at
-  pub same : from_first p (lines_on s from) ≡ from_first p (lines_on s at)
+  pub same : (p : List ℕ → Bool) → T p → from_first p (lines_on s from) ≡ from_first p (lines_on s at)
 
-pub seeks_start : (p : List ℕ → Bool) (s : List ℕ) (from : ℕ) → Seeks p s from from
-seeks_start p s from = record { low = omega arith; same = refl }
+pub seeks_start : (T : (List ℕ → Bool) → Type 0) (s : List ℕ) (from : ℕ) → Seeks T s from from
+seeks_start T s from = record { low = omega arith; same = λ p k. refl }
 
-module _ (p : List ℕ → Bool) (s : List ℕ) (from at : ℕ) (v : Seeks p s from at) where
-  pub seeks_none : (f : Option Span) → f ≡ span_at s at → f ≡ None → (r : Option Span) → r ≡ None → found_lines s r ≡ from_first p (lines_on s from)
+module _ (T : (List ℕ → Bool) → Type 0) (s : List ℕ) (from at : ℕ) (v : Seeks T s from at) where
+  pub seeks_none : (f : Option Span) → f ≡ span_at s at → f ≡ None → (r : Option Span) → r ≡ None → (p : List ℕ → Bool) → T p
+      → found_lines s r ≡ from_first p (lines_on s from)
   unfolding from_first
-  seeks_none f e q r z = rw z (sym (v.same ∙ ap (from_first p) (lines_last s at (found_none s at f e q))))
+  seeks_none f e q r z p k = rw z (sym (v.same p k ∙ ap (from_first p) (lines_last s at (found_none s at f e q))))
 
-  module _ (f : Option Span) (e : f ≡ span_at s at) (l : Span) (z : f ≡ Some l) (line : List ℕ) (el : line ≡ part s at l.end) (t : Bool) (et : t ≡ p line) where
+  module _ (f : Option Span) (e : f ≡ span_at s at) (l : Span) (z : f ≡ Some l) where
     h : at < length s
     h = found_here s at f e l z
-
-    step : from_first p (lines_on s at) ≡ cond t (lines_on s at) (from_first p (lines_on s l.next))
-    unfolding from_first
-    step =
-        let q : p (line_at s at).body ≡ t = ap p (sym (body_of s at f e l z line el)) ∙ sym et in
-        ap (from_first p) (lines_step s at h) ∙ rw (q, found_next s at f e l z, ← lines_step s at h)
-
-    pub seeks_here : t ≡ true → found_lines s (Some l) ≡ from_first p (lines_on s from)
-    seeks_here y = ap (lines_on s) (found_start s at f e l z) ∙ sym (v.same ∙ step ∙ rw y)
 
     pub seeks_in : Inside s from (Some l)
     seeks_in = record { low = omega (arith, v.low, found_start s at f e l z); is = found_again s at f e l z }
 
-    pub seeks_on : t ≡ false → Seeks p s from l.next
-    seeks_on n = record { low = omega (arith, v.low, found_next s at f e l z, next_more s at h); same = v.same ∙ step ∙ rw n }
-
     pub seeks_less : length s - l.next < length s - at
     seeks_less = omega (arith, found_next s at f e l z, next_more s at h, next_within s at (omega (arith, h)))
+
+    module _ (line : List ℕ) (el : line ≡ part s at l.end) (t : Bool) (et : (p : List ℕ → Bool) → T p → t ≡ p line) where
+      step : (p : List ℕ → Bool) → T p → from_first p (lines_on s at) ≡ cond t (lines_on s at) (from_first p (lines_on s l.next))
+      unfolding from_first
+      step p k =
+          let q : p (line_at s at).body ≡ t = ap p (sym (body_of s at f e l z line el)) ∙ sym (et p k) in
+          ap (from_first p) (lines_step s at h) ∙ rw (q, found_next s at f e l z, ← lines_step s at h)
+
+      pub seeks_here : t ≡ true → (p : List ℕ → Bool) → T p → found_lines s (Some l) ≡ from_first p (lines_on s from)
+      seeks_here y p k = ap (lines_on s) (found_start s at f e l z) ∙ sym (v.same p k ∙ step p k ∙ rw y)
+
+      pub seeks_on : t ≡ false → Seeks T s from l.next
+      seeks_on n = record { low = omega (arith, v.low, found_next s at f e l z, next_more s at h); same = λ p k. v.same p k ∙ step p k ∙ rw n }
 
 -- ---- the lines after the first that is sought
 pub after_found : (p : List ℕ → Bool) (s : List ℕ) (from : ℕ) (f : Option Span) → found_lines s f ≡ from_first p (lines_on s from) → Inside s from f

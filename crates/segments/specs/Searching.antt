@@ -1,23 +1,16 @@
 -- Serves the code: what its search over lines and the answer of it mean.
-use Rattle.std.specs.Prelude.{ℕ, ◌≤◌, ◌≡◌, List, [], Bool, ◌||◌, drop}
+use denote.Ref.{Bor}
+use Rattle.std.specs.Fn.{Shared, FnReturnsAt}
+use Rattle.std.specs.Prelude.{ℕ, ◌≤◌, ◌≡◌, List, [], Bool, drop}
 use Rattle.std.specs.Prelude.{Option, None, Some}
 use Rattle.lines.specs.Lines as lines
-use Rattle.lines.specs.Lines.{lines_from, blank, is_end}
+use Rattle.lines.specs.Lines.{lines_from}
 use Rattle.lines.specs.Spans.{span_at}
 use Rattle.lines.specs.declared.Span.{Span}
-use Rattle.heading.specs.Storm.{is_office}
-use Rattle.segments.specs.Search.{closes}
-use Rattle.segments.specs.declared.Sought.{Sought}
-use Rattle.segments.specs.declared.Sought.TheVariants.{End, Blank, Close, OfficeOrClose}
 
-abbrev pub office_or_close : List ℕ → Bool
-office_or_close s = closes s || is_office s
-
-abbrev pub test_of : Sought → List ℕ → Bool
-test_of End = is_end
-test_of Blank = blank
-test_of Close = closes
-test_of OfficeOrClose = office_or_close
+-- what the closure f answers of a line is what p says of it
+abbrev pub Tests : {F : Type 0} → Shared F (Bor (List ℕ) × Unit {0}) Bool → F → (List ℕ → Bool) → Type 0
+Tests g f p = (line : List ℕ) (answer : Bool) → FnReturnsAt g f line answer → answer ≡ p line
 
 -- the lines of the text from a place on
 abbrev pub lines_on : List ℕ → ℕ → List lines.Line

@@ -1,42 +1,21 @@
 // The segments of a bulletin: the search over lines, and each segment in its turn. Document 01, "Segments and place code blocks".
 #![tactic(auto)]
 
-ghost use Rattle.std.specs.Prelude.{◌≡◌, ◌≤◌, length};
+ghost use Rattle.std.specs.Prelude.{◌≡◌, ◌≤◌, ℕ, Bool, List, length};
 ghost use Rattle.std.specs.Prelude.{Some, IfOk, OnErr};
 ghost use Rattle.refusal.specs.Answer.{answer_by};
 ghost use Rattle.codes.specs.Places.{capacity};
 ghost use Rattle.lines.specs.Spans.{span_at};
-ghost use Rattle.lines.specs.Lines.{opens};
 ghost use Rattle.segments.specs.Segments.{most};
 ghost use Rattle.segments.specs.Search.{from_first, after_first, closes};
 ghost use Rattle.segments.specs.KeptAt.{keep_at};
-ghost use Rattle.segments.specs.Searching.{test_of, lines_on, found_lines, Inside, next_in};
+ghost use Rattle.segments.specs.Searching.{Tests, lines_on, found_lines, Inside, next_in};
 ghost use Rattle.segments.specs.Seen.{unread, segments_for, segments_held, Sized};
 ghost use Rattle.segments.specs.Listing.{Begun, Stepped, seen_from};
 ghost use Rattle.segments.specs.KeptBy.{kept_one, kept_by, kept_from, KeptSome, handed_on};
 
 use lines::{End, Span};
 use refusal::{Reason, Refusal};
-
-// What a search over lines looks for.
-#[derive(Clone, Copy)]
-pub enum Sought {
-    End,
-    Blank,
-    Close,
-    OfficeOrClose,
-}
-
-fn is_sought(line: &[u8], sought: Sought) -> bool
-    ensures { result ≡ test_of sought line.now }
-{
-    match sought {
-        Sought::End => lines::is_end(line),
-        Sought::Blank => lines::is_blank(line),
-        Sought::Close => closes(line),
-        Sought::OfficeOrClose => closes(line) || heading::is_office(line),
-    }
-}
 
 // Whether the line closes the MND block.
 pub fn closes(line: &[u8]) -> bool
@@ -45,30 +24,16 @@ pub fn closes(line: &[u8]) -> bool
     lines::is_blank(line) || lines::is_end(line)
 }
 
-// The first line from `from` on, where a line starts, that is what is sought.
-pub fn first(text: &[u8], from: usize, sought: Sought) -> Option<Span>
-    ensures is { found_lines text.now result ≡ from_first (test_of sought) (lines_on text.now from) }
+// The first line from `from` on, where a line starts, that passes the test `is_sought`.
+pub fn first<F: Fn(&[u8]) -> bool>(text: &[u8], from: usize, is_sought: F) -> Option<Span>
+    requires { F.IsAlwaysCallable is_sought }
+    ensures is { (p : List ℕ → Bool) → Tests F.Fn is_sought p → found_lines text.now result ≡ from_first p (lines_on text.now from) }
     ensures inside { Inside text.now from result }
 {
     let mut at = from;
     loop {
         let l = lines::find_line(text, at)?;
-        if is_sought(lines::part(text, at, l.end), sought) {
-            return Some(l);
-        }
-        at = l.next;
-    }
-}
-
-// The first line from `from` on, where a line starts, that opens a block.
-fn first_opening(text: &[u8], from: usize) -> Option<Span>
-    ensures is { found_lines text.now result ≡ from_first opens (lines_on text.now from) }
-    ensures inside { Inside text.now from result }
-{
-    let mut at = from;
-    loop {
-        let l = lines::find_line(text, at)?;
-        if lines::opens_block(lines::part(text, at, l.end)) {
+        if is_sought(lines::part(text, at, l.end)) {
             return Some(l);
         }
         at = l.next;
@@ -82,11 +47,12 @@ fn after_line(text: &[u8], at: usize) -> usize
     lines::find_line(text, at).map_or(at, |l| l.next)
 }
 
-// The place after the first line from `from` on that is what is sought, or the text's length.
-pub fn after_first(text: &[u8], from: usize, sought: Sought) -> usize
-    ensures { lines_on text.now result ≡ after_first (test_of sought) (lines_on text.now from) }
+// The place after the first line from `from` on that passes the test `is_sought`, or the text's length.
+pub fn after_first<F: Fn(&[u8]) -> bool>(text: &[u8], from: usize, is_sought: F) -> usize
+    requires { F.IsAlwaysCallable is_sought }
+    ensures { (p : List ℕ → Bool) → Tests F.Fn is_sought p → lines_on text.now result ≡ after_first p (lines_on text.now from) }
 {
-    first(text, from, sought).map_or(text.len(), |l| l.next)
+    first(text, from, is_sought).map_or(text.len(), |l| l.next)
 }
 
 // A segment: its first byte's place, where its block starts too, the place after its block's last line, the place after its `$$` line, how its first line ended, its
@@ -134,7 +100,7 @@ fn read_segment(
     let ended = opening.ended;
     let content = reading::read_content(text, start, issue)?;
     let block = after_line(text, content.place);
-    let end = first(text, block, Sought::End).ok_or(Reason::NoEnd.at(start))?;
+    let end = first(text, block, lines::is_end).ok_or(Reason::NoEnd.at(start))?;
     let places = content.places;
     let held = places.held;
     keep(kept, at, &held[0..places.count]);
@@ -161,7 +127,7 @@ fn next_segment(
     ensures is { Stepped text.now issue left from result }
     ensures kept { kept.new ≡ kept_by text.now issue at result kept.old }
 {
-    let Some(opening) = first_opening(text, from) else {
+    let Some(opening) = first(text, from, lines::opens_block) else {
         return Ok(None);
     };
     if left == 0 {

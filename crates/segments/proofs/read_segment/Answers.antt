@@ -1,6 +1,7 @@
 use native.Mathlib.Omega.{arith}
 use mathlib.Core.Path.{◌≡◌}
 use Rattle.std.specs.Prelude.{None, Some, Ok}
+use Rattle.lines.specs.Lines.{is_end}
 use Rattle.refusal.proofs.Exits.{handed, Refuses, none_at}
 use Rattle.segments.proofs.Keeping.{keep_few, kept_content}
 use Rattle.segments.proofs.Stepping.{begun_refused, begun_endless, begun_one}
@@ -12,6 +13,7 @@ returns-in_err-content-clause-is c = rw (handed c.from_residual.result _ c.from_
 
 pub returns-in_err-end-clause-is : goal.returns-in_err-end-clause-is
 returns-in_err-end-clause-is c =
+    let f = c.first.ensures.is is_end (λ line t k. search rules) in
     let p : Refuses c.first.result c.at.result c.from_residual-in_err-end.result = search (none_at, rules) in
     let n : c.first.result ≡ None = p.nothing in
     let y : c.read_content.result ≡ Ok c.in_ok-content.content = c.in_ok-content.was in
@@ -22,6 +24,7 @@ keep-requires c = (search rules, search (keep_few, rules))
 
 pub returns-clause-is : goal.returns-clause-is
 returns-clause-is c =
+    let f = c.first.ensures.is is_end (λ line t k. search rules) in
     let e : c.first.result ≡ Some c.in_ok-end.end = grind arith in
     search (begun_one, rules)
 
