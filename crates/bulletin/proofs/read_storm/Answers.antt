@@ -11,8 +11,8 @@ returns-then-closes c = search (storm_closed, rules)
 pub overflow_sub-l : goal.overflow_sub-l
 overflow_sub-l c = search (storm_room, rules)
 
-pub returns-in-Right : goal.returns-in-Right
-returns-in-Right c = search (storm_right, rules)
+pub returns-in-Ok : goal.returns-in-Ok
+returns-in-Ok c = search (storm_right, rules)
 
-pub returns-in-Wrong : goal.returns-in-Wrong
-returns-in-Wrong c = search (storm_wrong, rules)
+pub returns-in-Err : goal.returns-in-Err
+returns-in-Err c = search (storm_wrong, rules)
