@@ -1,6 +1,6 @@
 -- The MND block, its storm, and where the segments start: one law for each way out. Assumes nothing.
 use Rattle.heading.specs.declared.StormId.{StormId}
-use Rattle.std.specs.Prelude.{Option, None, Some, Ok, Err, option_map}
+use Rattle.std.specs.Prelude.{Option, None, Some, Result, Ok, Err, option_map}
 use Prim.Native.Nat.{ℕ, ◌+◌, ◌-◌, ◌≤◌}
 use native.Mathlib.Omega.{arith}
 use mathlib.Core.Path.{◌≡◌, refl, sym, ap, ◌∙◌}
@@ -9,6 +9,7 @@ use mathlib.Core.Bool.{Bool, true, false, cond, ◌||◌}
 use lib.ListN.{length, drop, length-drop}
 use borrow.Author.Tests.{eqb-true}
 use Rattle.laws.proofs.Tests.{by, apart, and_left}
+use Rattle.refusal.specs.declared.Reason.{Reason}
 use Rattle.refusal.specs.declared.Reason.TheVariants.{WrongBlock, NoSegment, WrongStorm}
 use Rattle.refusal.specs.Answer.{Answer, ok, no, refusal_for, answer_by}
 use Rattle.refusal.specs.declared.Refusal.{Refusal}
@@ -21,8 +22,6 @@ use Rattle.lines.proofs.Strings.{exactly_is}
 use Rattle.heading.specs.Storm as storm
 use Rattle.heading.specs.Storm.{is_office, storm_form, names_storm, StormName, storm_of}
 use Rattle.heading.specs.Paper.{paper_id, paper_named}
-use Rattle.heading.specs.declared.Named.{Named}
-use Rattle.heading.specs.declared.Named.TheVariants as naming
 use Rattle.segments.specs.Search.{from_first, up_to_first, closes}
 use Rattle.segments.specs.Searching.{lines_on, found_lines, LineFrom, Inside}
 use Rattle.bulletin.specs.Mnd.{storm_said, office_storm}
@@ -76,18 +75,18 @@ module _ (s : List ℕ) (from : ℕ) (f : Option Span) (ef : found_lines s f ≡
     pub storm_closed : t ≡ true → answer_by (option_map paper_id) (Ok None) ≡ office_storm (from_first is_office (up_to_first closes (lines_on s from)))
     storm_closed y = sym (first_is ∙ rw y)
 
-    module _ (n : t ≡ false) (m : Named) (em : paper_named m ≡ storm_of line) where
+    module _ (n : t ≡ false) (m : Result (Option StormId) Reason) (em : paper_named m ≡ storm_of line) where
       said_is : office_storm (from_first is_office (up_to_first closes (lines_on s from))) ≡ storm_said (line_at s a) (paper_named m)
       said_is = first_is ∙ rw (n, em)
 
-      pub storm_right : (x : Option StormId) → m ≡ naming.Right x → answer_by (option_map paper_id) (Ok x) ≡ office_storm (from_first is_office (up_to_first closes (lines_on s from)))
-      storm_right x y = sym (said_is ∙ ap (λ (k : Named). storm_said (line_at s a) (paper_named k)) y ∙ plain x)
+      pub storm_right : (x : Option StormId) → m ≡ Ok x → answer_by (option_map paper_id) (Ok x) ≡ office_storm (from_first is_office (up_to_first closes (lines_on s from)))
+      storm_right x y = sym (said_is ∙ ap (λ (k : Result (Option StormId) Reason). storm_said (line_at s a) (paper_named k)) y ∙ plain x)
         where
-          plain : (x : Option StormId) → storm_said (line_at s a) (paper_named (naming.Right x)) ≡ ok (option_map paper_id x)
+          plain : (x : Option StormId) → storm_said (line_at s a) (paper_named (Ok x)) ≡ ok (option_map paper_id x)
           plain None = refl
           plain (Some id) = refl
 
-      module _ (y : m ≡ naming.Wrong) where
+      module _ (v : Reason) (y : m ≡ Err v) where
         end_is : l.end ≡ a + length line
         unfolding end_of
         end_is = found_end s a (Some l) (sym here) l refl ∙ ap (λ (x : List ℕ). a + length x) body_is
@@ -98,10 +97,10 @@ module _ (s : List ℕ) (from : ℕ) (f : Option Span) (ef : found_lines s f ≡
         pub storm_room : 8 ≤ l.end
         storm_room = omega (arith, end_is, long)
 
-        pub storm_wrong : (w : Refusal) → w ≡ refusal_for WrongStorm (l.end - 8) → answer_by (option_map paper_id) (Err w) ≡ office_storm (from_first is_office (up_to_first closes (lines_on s from)))
-        storm_wrong w ew =
+        pub storm_wrong : v ≡ WrongStorm → (w : Refusal) → w ≡ refusal_for v (l.end - 8) → answer_by (option_map paper_id) (Err w) ≡ office_storm (from_first is_office (up_to_first closes (lines_on s from)))
+        storm_wrong ev w ew =
             let e : a + (length line - 8) ≡ l.end - 8 = omega (arith, end_is, long) in
-            rw ew (sym (said_is ∙ ap (λ (k : Named). storm_said (line_at s a) (paper_named k)) y ∙ rw (body_is, e)))
+            rw (ew, ev) (sym (said_is ∙ ap (λ (k : Result (Option StormId) Reason). storm_said (line_at s a) (paper_named k)) y ∙ rw (body_is, e)))
 
 -- ---- line 3
 module _ (s : List ℕ) (third : ℕ) (past : List Line) where

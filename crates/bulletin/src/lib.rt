@@ -18,7 +18,7 @@ ghost use Rattle.heading.specs.Storm.{is_office};
 ghost use Rattle.refusal.specs.Answer.{answer_by, answer_of};
 
 use calendar::Date;
-use heading::{Heading, Named, StormId};
+use heading::{Heading, StormId};
 use refusal::{Reason, Refusal};
 use segments::{Segment, Segments};
 
@@ -35,8 +35,8 @@ fn read_storm(text: &[u8], from: usize) -> Result<Option<StormId>, Refusal>
         return Ok(None);
     }
     match heading::read_storm(line) {
-        Named::Right(storm) => Ok(storm),
-        Named::Wrong => Err(Reason::WrongStorm.at(l.end - 8)),
+        Ok(storm) => Ok(storm),
+        Err(reason) => Err(reason.at(l.end - 8)),
     }
 }
 

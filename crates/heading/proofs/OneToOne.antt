@@ -1,5 +1,5 @@
 -- The readings of document 01 are one to one: what the paper says of an answer is said of no other. Assumes nothing.
-use Rattle.std.specs.Prelude.{Option, None, Some, option_map}
+use Rattle.std.specs.Prelude.{Option, None, Some, option_map, Result, Ok, Err, IfErr}
 use Prim.Native.Nat.{ℕ}
 use mathlib.Core.Path.{◌≡◌, refl, sym, ap, ◌∙◌}
 use mathlib.Core.Bool.{cond}
@@ -17,8 +17,8 @@ use Rattle.heading.specs.declared.Basin.TheVariants.{Al, Sl, Ep, Cp, Wp}
 use Rattle.heading.specs.declared.Class.{Class}
 use Rattle.heading.specs.declared.Class.TheVariants.{Cyclone, Internal, Training, Disturbance}
 use Rattle.heading.specs.declared.StormId.{StormId}
-use Rattle.heading.specs.declared.Named.{Named}
-use Rattle.heading.specs.declared.Named.TheVariants as named
+use Rattle.refusal.specs.declared.Reason.{Reason}
+use Rattle.refusal.specs.declared.Reason.TheVariants.{WrongStorm}
 
 -- ---- line 1
 bbb_one : (a b : Option Bbb) → option_map paper_bbb a ≡ option_map paper_bbb b → a ≡ b
@@ -80,18 +80,22 @@ storm_one (Some i) (Some j) e =
     let p : paper_id i ≡ paper_id j = cc in
     ap Some (id_one i j p)
 
-two_named : (a b : Named) → paper_named a ≡ paper_named b → a ≡ b
-two_named (named.Right None) (named.Right None) e = refl
-two_named (named.Right None) (named.Right (Some j)) e = apart cc
-two_named (named.Right None) named.Wrong e = apart cc
-two_named (named.Right (Some i)) (named.Right None) e = apart cc
-two_named (named.Right (Some i)) (named.Right (Some j)) e =
-    let p : paper_id i ≡ paper_id j = cc in
-    ap (λ (id : StormId). named.Right (Some id)) (id_one i j p)
-two_named (named.Right (Some i)) named.Wrong e = apart cc
-two_named named.Wrong (named.Right None) e = apart cc
-two_named named.Wrong (named.Right (Some j)) e = apart cc
-two_named named.Wrong named.Wrong e = refl
+abbrev Wrong_only : Result (Option StormId) Reason → Type 0
+Wrong_only r = IfErr r (λ (w : Reason). w ≡ WrongStorm)
 
-pub named_one : {x : StormSaid} (r s : Named) → paper_named r ≡ x → paper_named s ≡ x → r ≡ s
-named_one r s p q = two_named r s (p ∙ sym q)
+two_named : (a b : Result (Option StormId) Reason) → Wrong_only a → Wrong_only b → paper_named a ≡ paper_named b → a ≡ b
+two_named (Ok None) (Ok None) v w e = refl
+two_named (Ok None) (Ok (Some j)) v w e = apart cc
+two_named (Ok None) (Err y) v w e = apart cc
+two_named (Ok (Some i)) (Ok None) v w e = apart cc
+two_named (Ok (Some i)) (Ok (Some j)) v w e =
+    let p : paper_id i ≡ paper_id j = cc in
+    ap (λ (id : StormId). Ok (Some id)) (id_one i j p)
+two_named (Ok (Some i)) (Err y) v w e = apart cc
+two_named (Err x) (Ok None) v w e = apart cc
+two_named (Err x) (Ok (Some j)) v w e = apart cc
+two_named (Err x) (Err y) v w e = ap Err (v ∙ sym w)
+
+pub named_one : {x : StormSaid} (r s : Result (Option StormId) Reason) → IfErr r (λ (w : Reason). w ≡ WrongStorm) → IfErr s (λ (w : Reason). w ≡ WrongStorm)
+    → paper_named r ≡ x → paper_named s ≡ x → r ≡ s
+named_one r s v w p q = two_named r s v w (p ∙ sym q)

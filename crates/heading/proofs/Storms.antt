@@ -1,5 +1,5 @@
 -- The office line and its storm, by their bytes: one law for each way out of the code. Assumes nothing.
-use Rattle.std.specs.Prelude.{Option, None, Some, option_map}
+use Rattle.std.specs.Prelude.{Option, None, Some, option_map, Result, Ok, Err}
 use Prim.Native.Nat.{ℕ, ◌+◌, ◌-◌, ◌*◌}
 use mathlib.Core.Path.{◌≡◌, refl, ◌∙◌}
 use mathlib.Core.List.{List, ◌++◌}
@@ -16,8 +16,8 @@ use Rattle.heading.specs.Storm.{storm_form, names_storm, basin_of, class_of, sto
 use Rattle.heading.specs.Paper.{paper_basin, paper_class, paper_named}
 use Rattle.heading.specs.declared.Basin.{Basin}
 use Rattle.heading.specs.declared.Class.{Class}
-use Rattle.heading.specs.declared.Named.{Named}
-use Rattle.heading.specs.declared.Named.TheVariants.{Right, Wrong}
+use Rattle.heading.specs.declared.StormId.{StormId}
+use Rattle.refusal.specs.declared.Reason.{Reason}
 
 -- ---- a space, two capitals and six digits
 pub names_is : (s e : List ℕ) → e ≡ drop (length s - 9) s →
@@ -29,23 +29,23 @@ names_is s e h =
 
 -- ---- the storm of eight bytes
 module _ (e : List ℕ) (n : ℕ) (en : n ≡ two_of (drop 2 e)) (f : Option Basin) (ef : option_map paper_basin f ≡ basin_of e) where
-  pub storm_elsewhere : f ≡ None → paper_named Wrong ≡ storm_spelled e
-  storm_elsewhere p = rw (← ef, p)
+  pub storm_elsewhere : f ≡ None → (w : Reason) → paper_named (Err w) ≡ storm_spelled e
+  storm_elsewhere p w = rw (← ef, p)
 
   module _ (b : Basin) (p : f ≡ Some b) (g : Option Class) (eg : option_map paper_class g ≡ class_of n) where
-    pub storm_zero : g ≡ None → paper_named Wrong ≡ storm_spelled e
-    storm_zero q = rw (← en, ← ef, p, ← eg, q)
+    pub storm_zero : g ≡ None → (w : Reason) → paper_named (Err w) ≡ storm_spelled e
+    storm_zero q w = rw (← en, ← ef, p, ← eg, q)
 
     pub storm_found : (c : Class) → g ≡ Some c → (y z : ℕ) → y ≡ two_of (drop 4 e) → z ≡ two_of (drop 6 e)
-        → paper_named (Right (Some (record { basin = b; class = c; number = n; year = 100 * y + z }))) ≡ storm_spelled e
+        → paper_named (Ok (Some (record { basin = b; class = c; number = n; year = 100 * y + z }))) ≡ storm_spelled e
     storm_found c q y z ey ez = rw (← en, ← ey, ← ez, ← ef, p, ← eg, q)
 
 -- ---- what the office line says
 module _ (s : List ℕ) (t : Bool) (et : t ≡ names_storm s) where
-  pub storm_named : t ≡ true → (e : List ℕ) → e ≡ drop (length s - 8) s → (r : Named) → paper_named r ≡ storm_spelled e → paper_named r ≡ storm_of s
+  pub storm_named : t ≡ true → (e : List ℕ) → e ≡ drop (length s - 8) s → (r : Result (Option StormId) Reason) → paper_named r ≡ storm_spelled e → paper_named r ≡ storm_of s
   unfolding storm_of
   storm_named y e ee r q = q ∙ rw (← et, y, ← ee)
 
-  pub storm_unnamed : t ≡ false → paper_named (Right None) ≡ storm_of s
+  pub storm_unnamed : t ≡ false → paper_named (Ok None) ≡ storm_of s
   unfolding storm_of
   storm_unnamed y = rw (← et, y)

@@ -1,7 +1,8 @@
 -- What the code's answers mean in document 01's values, and what a function inside says of the bytes behind DDHHMM.
 use Rattle.std.specs.Prelude.{ℕ, List, [], ◌∷◌, ◌++◌, Bool, ◌||◌}
-use Rattle.std.specs.Prelude.{None, Some, option_map}
+use Rattle.std.specs.Prelude.{Option, None, Some, option_map, Result, Ok, Err}
 use Prim.Native.String.{String}
+use Rattle.refusal.specs.declared.Reason.{Reason}
 use Rattle.lines.specs.Bytes.{Kind, bytes, word, exactly}
 use Rattle.heading.specs.Heading as heading
 use Rattle.heading.specs.Storm.{ClassName, cyclone, internal, training, disturbance, StormName, StormSaid, no_storm, storm, refused_storm}
@@ -12,8 +13,6 @@ use Rattle.heading.specs.declared.Basin.TheVariants.{Al, Sl, Ep, Cp, Wp}
 use Rattle.heading.specs.declared.Class.{Class}
 use Rattle.heading.specs.declared.Class.TheVariants.{Cyclone, Internal, Training, Disturbance}
 use Rattle.heading.specs.declared.StormId.{StormId}
-use Rattle.heading.specs.declared.Named.{Named}
-use Rattle.heading.specs.declared.Named.TheVariants as named
 
 -- ---- line 1
 -- a space and BBB, and nothing more
@@ -46,7 +45,7 @@ paper_class Disturbance = disturbance
 abbrev pub paper_id : StormId → StormName
 paper_id id = record { basin = paper_basin id.basin; class = paper_class id.class; number = id.number; year = id.year }
 
-abbrev pub paper_named : Named → StormSaid
-paper_named (named.Right None) = no_storm
-paper_named (named.Right (Some id)) = storm (paper_id id)
-paper_named named.Wrong = refused_storm
+abbrev pub paper_named : Result (Option StormId) Reason → StormSaid
+paper_named (Ok None) = no_storm
+paper_named (Ok (Some id)) = storm (paper_id id)
+paper_named (Err reason) = refused_storm

@@ -1,13 +1,15 @@
 // Line 1, line 2 and the office line of a bulletin: document 01, "Text and lines".
 #![tactic(auto)]
 
-ghost use Rattle.std.specs.Prelude.{◌≡◌, if◌then◌else◌, option_map, ◌-◌, ◌≤◌, ◌<◌, length, get_or, drop};
+ghost use Rattle.std.specs.Prelude.{◌≡◌, if◌then◌else◌, option_map, ◌-◌, ◌≤◌, ◌<◌, length, get_or, drop, IfErr};
+ghost use Rattle.refusal.specs.declared.Reason.TheVariants.{WrongStorm};
 ghost use Rattle.lines.specs.Bytes.{between, begins};
 ghost use Rattle.heading.specs.Heading.{times, heading_form, bbb_after, heading_of, capital_or_digit, is_identifier};
 ghost use Rattle.heading.specs.Storm.{is_office, names_storm, basin_of, class_of, storm_spelled, storm_of};
 ghost use Rattle.heading.specs.Paper.{is_amendment, paper_bbb, paper_heading, paper_basin, paper_class, paper_named};
 
 use calendar::Stamp;
+use refusal::Reason;
 
 // BBB's three letters.
 #[derive(Clone, Copy)]
@@ -42,12 +44,6 @@ pub struct StormId {
     pub class: Class,
     pub number: usize,
     pub year: usize,
-}
-
-#[derive(Clone, Copy)]
-pub enum Named {
-    Right(Option<StormId>),
-    Wrong,
 }
 
 // Whether the line's bytes from one place up to another are all from `low` to `high`.
@@ -174,32 +170,30 @@ fn class_of(n: usize) -> Option<Class>
 }
 
 // The storm that eight bytes name.
-fn storm_in(e: &[u8]) -> Named
-    ensures { paper_named result ≡ storm_spelled e.now }
+#[tactic(auto, using(crate::proofs::Storms::storm_elsewhere, crate::proofs::Storms::storm_zero, crate::proofs::Storms::storm_found))]
+fn storm_in(e: &[u8]) -> Result<Option<StormId>, Reason>
+    ensures is { paper_named result ≡ storm_spelled e.now }
+    ensures reason { IfErr result (λ reason. reason ≡ WrongStorm) }
 {
     let number = codes::two(e, 2);
-    let century = codes::two(e, 4);
-    let rest = codes::two(e, 6);
-    let Some(basin) = basin_of(e) else {
-        return Named::Wrong;
-    };
-    let Some(class) = class_of(number) else {
-        return Named::Wrong;
-    };
-    Named::Right(Some(StormId {
+    let basin = basin_of(e).ok_or(Reason::WrongStorm)?;
+    let class = class_of(number).ok_or(Reason::WrongStorm)?;
+    Ok(Some(StormId {
         basin,
         class,
         number,
-        year: 100 * century + rest,
+        year: 100 * codes::two(e, 4) + codes::two(e, 6),
     }))
 }
 
 // What an office line says of a storm.
-pub fn read_storm(line: &[u8]) -> Named
-    ensures { paper_named result ≡ storm_of line.now }
+#[tactic(auto, using(crate::proofs::Storms::storm_named, crate::proofs::Storms::storm_unnamed))]
+pub fn read_storm(line: &[u8]) -> Result<Option<StormId>, Reason>
+    ensures is { paper_named result ≡ storm_of line.now }
+    ensures reason { IfErr result (λ reason. reason ≡ WrongStorm) }
 {
     if names_storm(line) {
         return storm_in(last(line, 8));
     }
-    Named::Right(None)
+    Ok(None)
 }

@@ -17,7 +17,7 @@ use Rattle.codes.specs.Block as codes
 use Rattle.codes.specs.Block.{content_at}
 use Rattle.reading.specs.Placed.{placed_at}
 use Rattle.sets.specs.Held.{Good}
-use Rattle.reading.specs.Held.{content_of, placed_of}
+use Rattle.reading.specs.Held.{content_given, placed_of}
 use Rattle.reading.proofs.Placing.{content_told}
 use Rattle.sets.specs.Held as held
 use Rattle.reading.specs.declared.Content.{Content}
@@ -49,18 +49,18 @@ at_none (x ∷ l) (suc i) h = at_none l i (omega arith)
 
 -- ---- in a block that is read again
 module _ (s : List ℕ) (issue start i : ℕ) (r : Result Content Refusal) (w : answer_by placed_of r ≡ placed_at s issue start) where
-  e : answer_by content_of r ≡ content_at s issue start
+  e : answer_by content_given r ≡ content_at s issue start
   e = content_told s issue start r w
 
   pub place_no : (y : Refusal) → r ≡ Err y → answer_by value_said (Err y) ≡ place_answer i (content_at s issue start)
-  place_no y q = ap (λ (x : Result Content Refusal). place_answer i (answer_by content_of x)) (sym q) ∙ ap (place_answer i) e
+  place_no y q = ap (λ (x : Result Content Refusal). place_answer i (answer_by content_given x)) (sym q) ∙ ap (place_answer i) e
 
   module _ (k : Content) (q : r ≡ Ok k) (is-good : IfOk r (λ c. Good c.places)) where
     g : Good k.places
     g = rw q at is-good
 
     placed : place_at (slice_get (held.places_in k.places) i) ≡ place_answer i (content_at s issue start)
-    placed = ap (λ (x : Result Content Refusal). place_answer i (answer_by content_of x)) (sym q) ∙ ap (place_answer i) e
+    placed = ap (λ (x : Result Content Refusal). place_answer i (answer_by content_given x)) (sym q) ∙ ap (place_answer i) e
 
     long : length (held.places_in k.places) ≡ k.places.count
     long = length-take-le k.places.count k.places.held (omega (arith, g.long, g.few))

@@ -14,7 +14,7 @@ use Rattle.codes.specs.Block as codes
 use Rattle.sets.specs.Held.{Good, places_in, vacant}
 use Rattle.sets.specs.declared.Places.{Places}
 use Rattle.reading.specs.Placed.{Placed}
-use Rattle.reading.specs.Held.{content_of, placed_of}
+use Rattle.reading.specs.Held.{content_given, placed_of}
 use Rattle.reading.specs.declared.Content.{Content}
 
 count_is : (t : Places) → Good t → length (places_in t) ≡ t.count

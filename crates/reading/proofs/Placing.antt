@@ -10,7 +10,7 @@ use Rattle.refusal.specs.declared.Refusal.{Refusal}
 use Rattle.codes.specs.Block as codes
 use Rattle.codes.specs.Block.{Read, block, wrong_at, read_block, twice_at, content_in, content_at}
 use Rattle.reading.specs.Placed.{purge_place, Placed, placed_at}
-use Rattle.reading.specs.Held.{content_of, placed_of}
+use Rattle.reading.specs.Held.{content_given, placed_of}
 use Rattle.reading.specs.declared.Content.{Content}
 use Rattle.reading.proofs.Contents.{told_of}
 
@@ -44,7 +44,7 @@ unfolding and_then
 content_no issue start t (block ps s at) number place e = told_no (content_in issue start t (block ps s at)) at number place e
 content_no issue start t (wrong_at q) number place e = cc
 
-pub content_told : (text : List ℕ) (issue start : ℕ) (c : Result Content Refusal) → answer_by placed_of c ≡ placed_at text issue start → answer_by content_of c ≡ content_at text issue start
+pub content_told : (text : List ℕ) (issue start : ℕ) (c : Result Content Refusal) → answer_by placed_of c ≡ placed_at text issue start → answer_by content_given c ≡ content_at text issue start
 unfolding placed_at content_at
 content_told text issue start (Ok c) e = sym (placed_parts text issue start (placed_of c) (sym e)).content
 content_told text issue start (Err r) e = sym (content_no issue start (twice_at text start) (read_block text start) (number_of r.reason) r.place (sym e))

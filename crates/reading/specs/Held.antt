@@ -26,9 +26,9 @@ block_for twice (codes.block ps s at) = whole_for twice s at ps
 block_for twice (codes.wrong_at place) = Err (refusal_for WrongBlock place)
 
 -- ---- a segment's content
-abbrev pub content_of : Content → codes.Content
-content_of c = record { purge = c.purge; places = places_in c.places }
+abbrev pub content_given : Content → codes.Content
+content_given c = record { purge = c.purge; places = places_in c.places }
 
 -- with the purge element's place
 abbrev pub placed_of : Content → Placed
-placed_of c = record { content = content_of c; at = c.place }
+placed_of c = record { content = content_given c; at = c.place }

@@ -17,12 +17,12 @@ overflow_sub-l c =
     let f = c.first.ensures.is office_or_close (λ line t k. search rules) in
     search (storm_room, rules)
 
-pub returns-in-Right : goal.returns-in-Right
-returns-in-Right c =
+pub returns-in-Ok : goal.returns-in-Ok
+returns-in-Ok c =
     let f = c.first.ensures.is office_or_close (λ line t k. search rules) in
     search (storm_right, rules)
 
-pub returns-in-Wrong : goal.returns-in-Wrong
-returns-in-Wrong c =
+pub returns-in-Err : goal.returns-in-Err
+returns-in-Err c =
     let f = c.first.ensures.is office_or_close (λ line t k. search rules) in
     search (storm_wrong, rules)
