@@ -26,9 +26,6 @@ pub record Seeks (T : (List ℕ → Bool) → Type 0) (s : List ℕ) (from at : 
   pub low : from ≤ at
   pub same : (p : List ℕ → Bool) → T p → from_first p (lines_on s from) ≡ from_first p (lines_on s at)
 
-pub seeks_start : (T : (List ℕ → Bool) → Type 0) (s : List ℕ) (from : ℕ) → Seeks T s from from
-seeks_start T s from = record { low = omega arith; same = λ p k. refl }
-
 module _ (T : (List ℕ → Bool) → Type 0) (s : List ℕ) (from at : ℕ) (v : Seeks T s from at) where
   pub seeks_none : (f : Option Span) → f ≡ span_at s at → f ≡ None → (r : Option Span) → r ≡ None → (p : List ℕ → Bool) → T p
       → found_lines s r ≡ from_first p (lines_on s from)

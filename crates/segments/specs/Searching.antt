@@ -1,5 +1,5 @@
 -- Serves the code: what its search over lines and the answer of it mean.
-use denote.Ref.{Bor}
+use Rattle.std.specs.Borrow.{Bor}
 use Rattle.std.specs.Fn.{Shared, FnReturnsAt}
 use Rattle.std.specs.Prelude.{ℕ, ◌≤◌, ◌≡◌, List, [], Bool, drop}
 use Rattle.std.specs.Prelude.{Option, None, Some}
