@@ -1,6 +1,6 @@
 -- The MND block, its storm, and where the segments start: one law for each way out. Assumes nothing.
 use Rattle.heading.specs.declared.StormId.{StormId}
-use Rattle.std.specs.Prelude.{Option, None, Some, option_map}
+use Rattle.std.specs.Prelude.{Option, None, Some, Ok, Err, option_map}
 use Prim.Native.Nat.{ℕ, ◌+◌, ◌-◌, ◌≤◌}
 use native.Mathlib.Omega.{arith}
 use mathlib.Core.Path.{◌≡◌, refl, sym, ap, ◌∙◌}
@@ -9,8 +9,9 @@ use mathlib.Core.Bool.{Bool, true, false, cond}
 use lib.ListN.{length, drop, length-drop}
 use borrow.Author.Tests.{eqb-true}
 use Rattle.laws.proofs.Tests.{by, apart, and_left}
-use Rattle.refusal.specs.Numbers.{wrong_block, no_segment, wrong_storm}
-use Rattle.refusal.specs.Answer.{Answer, ok, no, refusal_for}
+use Rattle.refusal.specs.declared.Reason.TheVariants.{WrongBlock, NoSegment, WrongStorm}
+use Rattle.refusal.specs.Answer.{Answer, ok, no, refusal_for, answer_by}
+use Rattle.refusal.specs.declared.Refusal.{Refusal}
 use Rattle.lines.specs.Bytes.{begins, exactly}
 use Rattle.lines.specs.Lines.{Line, blank, opens}
 use Rattle.lines.specs.Spans.{span_at, part}
@@ -26,9 +27,6 @@ use Rattle.segments.specs.Search.{from_first, up_to_first, closes}
 use Rattle.segments.specs.Searching.{office_or_close, lines_on, found_lines, LineFrom, Inside}
 use Rattle.bulletin.specs.Mnd.{storm_said, office_storm}
 use Rattle.bulletin.specs.Starts.{from_line3}
-use Rattle.bulletin.specs.Front.{paper_stormed, paper_start}
-use Rattle.bulletin.specs.declared.Stormed.TheVariants as stormed
-use Rattle.bulletin.specs.declared.Start.TheVariants as start
 use Rattle.segments.proofs.Seeking.{body_of}
 
 -- ---- the office line is the first line that is one or closes the block, if it does not close it
@@ -52,7 +50,7 @@ storm_long line e =
     (λ y. let f : storm.no_storm ≡ storm.refused_storm = rw y at e in apart cc)
 
 module _ (s : List ℕ) (from : ℕ) (f : Option Span) (ef : found_lines s f ≡ from_first office_or_close (lines_on s from)) where
-  pub storm_none : f ≡ None → paper_stormed (stormed.Right None) ≡ office_storm (from_first is_office (up_to_first closes (lines_on s from)))
+  pub storm_none : f ≡ None → answer_by (option_map paper_id) (Ok None) ≡ office_storm (from_first is_office (up_to_first closes (lines_on s from)))
   unfolding first_storm
   storm_none q = sym (office_is (lines_on s from) ∙ rw (← ef, q))
 
@@ -71,14 +69,14 @@ module _ (s : List ℕ) (from : ℕ) (f : Option Span) (ef : found_lines s f ≡
     unfolding first_storm
     first_is = office_is (lines_on s from) ∙ rw (← ef, q, lines_step s a (span_inside s l here), body_is, ← et)
 
-    pub storm_closed : t ≡ true → paper_stormed (stormed.Right None) ≡ office_storm (from_first is_office (up_to_first closes (lines_on s from)))
+    pub storm_closed : t ≡ true → answer_by (option_map paper_id) (Ok None) ≡ office_storm (from_first is_office (up_to_first closes (lines_on s from)))
     storm_closed y = sym (first_is ∙ rw y)
 
     module _ (n : t ≡ false) (m : Named) (em : paper_named m ≡ storm_of line) where
       said_is : office_storm (from_first is_office (up_to_first closes (lines_on s from))) ≡ storm_said (line_at s a) (paper_named m)
       said_is = first_is ∙ rw (n, em)
 
-      pub storm_right : (x : Option StormId) → m ≡ naming.Right x → paper_stormed (stormed.Right x) ≡ office_storm (from_first is_office (up_to_first closes (lines_on s from)))
+      pub storm_right : (x : Option StormId) → m ≡ naming.Right x → answer_by (option_map paper_id) (Ok x) ≡ office_storm (from_first is_office (up_to_first closes (lines_on s from)))
       storm_right x y = sym (said_is ∙ ap (λ (k : Named). storm_said (line_at s a) (paper_named k)) y ∙ plain x)
         where
           plain : (x : Option StormId) → storm_said (line_at s a) (paper_named (naming.Right x)) ≡ ok (option_map paper_id x)
@@ -96,26 +94,26 @@ module _ (s : List ℕ) (from : ℕ) (f : Option Span) (ef : found_lines s f ≡
         pub storm_room : 8 ≤ l.end
         storm_room = omega (arith, end_is, long)
 
-        pub storm_wrong : paper_stormed (stormed.Refused (refusal_for wrong_storm (l.end - 8))) ≡ office_storm (from_first is_office (up_to_first closes (lines_on s from)))
-        storm_wrong =
+        pub storm_wrong : (w : Refusal) → w ≡ refusal_for WrongStorm (l.end - 8) → answer_by (option_map paper_id) (Err w) ≡ office_storm (from_first is_office (up_to_first closes (lines_on s from)))
+        storm_wrong w ew =
             let e : a + (length line - 8) ≡ l.end - 8 = omega (arith, end_is, long) in
-            sym (said_is ∙ ap (λ (k : Named). storm_said (line_at s a) (paper_named k)) y ∙ rw (body_is, e))
+            rw ew (sym (said_is ∙ ap (λ (k : Named). storm_said (line_at s a) (paper_named k)) y ∙ rw (body_is, e)))
 
 -- ---- line 3
 module _ (s : List ℕ) (third : ℕ) (past : List Line) where
-  pub place_none : (f : Option Span) → f ≡ span_at s third → f ≡ None → paper_start s (start.Refused (refusal_for no_segment (length s))) ≡ from_line3 past (length s) (lines_on s third)
-  place_none f e q = rw (lines_last s third (found_none s third f e q))
+  pub place_none : (f : Option Span) → f ≡ span_at s third → f ≡ None → (w : Refusal) → w ≡ refusal_for NoSegment (length s) → answer_by (lines_on s) (Err w) ≡ from_line3 past (length s) (lines_on s third)
+  place_none f e q w ew = rw (ew, lines_last s third (found_none s third f e q))
 
   module _ (f : Option Span) (ef : f ≡ span_at s third) (l : Span) (el : f ≡ Some l) (line : List ℕ) (en : line ≡ part s third l.end) (t : Bool) (et : t ≡ blank line) where
     line3 : from_line3 past (length s) (lines_on s third) ≡ cond t (ok past) (cond (opens line) (ok (lines_on s third)) (no 6 third))
     line3 = rw (lines_step s third (found_here s third f ef l el), ← body_of s third f ef l el line en, ← et)
 
-    pub place_blank : t ≡ true → (r : ℕ) → lines_on s r ≡ past → paper_start s (start.From r) ≡ from_line3 past (length s) (lines_on s third)
+    pub place_blank : t ≡ true → (r : ℕ) → lines_on s r ≡ past → answer_by (lines_on s) (Ok r) ≡ from_line3 past (length s) (lines_on s third)
     place_blank y r q = ap ok q ∙ sym (line3 ∙ rw y)
 
     module _ (n : t ≡ false) (o : Bool) (eo : o ≡ opens line) where
-      pub place_opens : o ≡ true → paper_start s (start.From third) ≡ from_line3 past (length s) (lines_on s third)
+      pub place_opens : o ≡ true → answer_by (lines_on s) (Ok third) ≡ from_line3 past (length s) (lines_on s third)
       place_opens y = sym (line3 ∙ rw (n, ← eo, y))
 
-      pub place_wrong : o ≡ false → paper_start s (start.Refused (refusal_for wrong_block third)) ≡ from_line3 past (length s) (lines_on s third)
-      place_wrong y = sym (line3 ∙ rw (n, ← eo, y))
+      pub place_wrong : o ≡ false → (w : Refusal) → w ≡ refusal_for WrongBlock third → answer_by (lines_on s) (Err w) ≡ from_line3 past (length s) (lines_on s third)
+      place_wrong y w ew = rw ew (sym (line3 ∙ rw (n, ← eo, y)))

@@ -1,17 +1,15 @@
 -- The whole bulletin: the order of reading, part after part. Assumes nothing.
 use Rattle.heading.specs.declared.StormId.{StormId}
-use Rattle.std.specs.Prelude.{Option, option_map}
+use Rattle.std.specs.Prelude.{Option, Result, Ok, Err, IfOk, option_map}
 use Prim.Native.Nat.{ℕ, zero, suc}
 use native.Mathlib.Omega.{arith}
 use mathlib.Core.Path.{◌≡◌, refl, sym, ap, ◌∙◌}
 use mathlib.Core.List.{List, [], ◌∷◌}
 use lib.ListN.{length, take}
 use Rattle.laws.proofs.Tests.{impossible, apart}
-use Rattle.refusal.specs.Numbers.{no_segment}
-use Rattle.refusal.specs.Answer.{Answer, ok, no, refusal_for, and_then, paper_refusal, paper_verdict}
+use Rattle.refusal.specs.declared.Reason.TheVariants.{NoSegment}
+use Rattle.refusal.specs.Answer.{Answer, ok, no, refused, refusal_for, and_then, answer_by, answer_of}
 use Rattle.refusal.specs.declared.Refusal.{Refusal}
-use Rattle.refusal.specs.declared.Verdict.{Verdict}
-use Rattle.refusal.specs.declared.Verdict.TheVariants as verdict
 use Rattle.lines.specs.Lines.{Line, blank}
 use Rattle.heading.specs.Paper.{paper_heading, paper_id}
 use Rattle.heading.specs.Storm.{is_office, StormName}
@@ -23,44 +21,25 @@ use Rattle.segments.specs.Segments.{segments_from, most}
 use Rattle.bulletin.specs.Starts.{from_line3, first_lines, one_or_more, segments_of}
 use Rattle.bulletin.specs.Bulletin as rule
 use Rattle.bulletin.specs.Bulletin.{read_bulletin}
-use Rattle.segments.specs.Seen.{unread, segments_for, segments_held, Sized}
-use Rattle.segments.specs.Listing.{seen_of, seen_from, listed_by, paper_listed}
+use Rattle.segments.specs.Seen.{segments_for, segments_held, Sized}
+use Rattle.segments.specs.Listing.{seen_of, seen_from}
 use Rattle.segments.specs.KeptBy.{kept_from}
-use Rattle.bulletin.specs.Report.{Report, reported, report_of, paper_bulletin, segments_reported, Reads}
-use Rattle.bulletin.specs.Below.{some_seen, listed_of, head_of, below_top, below_of, refused_for, Answers}
-use Rattle.bulletin.specs.Front.{paper_stormed, paper_start, text_checked, Above, second_of, top_of, paper_topped}
+use Rattle.bulletin.specs.Report.{Report, reported, report_of, report_said, segments_reported, Reads}
+use Rattle.bulletin.specs.Below.{some_seen, listed_of, head_of, below_top, below_of, Answers}
+use Rattle.bulletin.specs.Front.{text_checked, Above, above_of, second_of, top_of}
 use Rattle.segments.specs.declared.Segment.{Segment}
-use Rattle.segments.specs.declared.Ending.{Ending}
-use Rattle.segments.specs.declared.Ending.TheVariants as ending
-use Rattle.segments.specs.declared.Listed.{Listed}
-use Rattle.bulletin.specs.declared.Stormed.{Stormed}
-use Rattle.bulletin.specs.declared.Stormed.TheVariants as stormed
-use Rattle.bulletin.specs.declared.Start.{Start}
-use Rattle.bulletin.specs.declared.Start.TheVariants as start
+use Rattle.segments.specs.declared.Segments.{Segments}
 use Rattle.bulletin.specs.declared.Top.{Top}
-use Rattle.bulletin.specs.declared.Topped.{Topped}
-use Rattle.bulletin.specs.declared.Topped.TheVariants as topped
 use Rattle.bulletin.specs.declared.Head.{Head}
-use Rattle.bulletin.specs.declared.Reading.TheVariants as reading
 use Rattle.bulletin.specs.declared.Bulletin.{Bulletin}
-use Rattle.segments.proofs.Stepping.{unread_sized}
 
--- ---- a refusal, with no segment
-pub refused_is : (held : List Segment) (r : Refusal) → held ≡ unread → record { reading = reading.Refused r; segments = record { held = held; count = 0 } } ≡ refused_for r
-refused_is held r e = rw e
-
-refused_answers : (s : List ℕ) (said : Answer Report) (ks d : List ℕ) (b : Bulletin) (r : Refusal) → b ≡ refused_for r → paper_refusal r ≡ said → Answers s said ks d b
-refused_answers s said ks d b r e q =
-    record {
-      says = ap paper_bulletin e ∙ q;
-      segments = rw e;
-      sized = unread_sized b.segments (ap (λ (x : Bulletin). x.segments) e);
-      kept = λ h w. let z : reading.Refused r ≡ reading.Accepted h = sym (ap (λ (x : Bulletin). x.reading) e) ∙ w in apart cc;
-    }
+-- ---- a refusal
+refused_answers : (s : List ℕ) (said : Answer Report) (ks d : List ℕ) (w : Refusal) → refused w.reason w.place ≡ said → Answers s said ks d (Err w)
+refused_answers s said ks d w q = record { says = q; segments = λ b e. apart cc; sized = tt; kept = λ b e. apart cc }
 
 -- what is said may be said otherwise
-answers_as : (s : List ℕ) (x y : Answer Report) (ks d : List ℕ) (b : Bulletin) → x ≡ y → Answers s x ks d b → Answers s y ks d b
-answers_as s x y ks d b e v = record { says = v.says ∙ e; segments = v.segments; sized = v.sized; kept = v.kept }
+answers_as : (s : List ℕ) (x y : Answer Report) (ks d : List ℕ) (r : Result Bulletin Refusal) → x ≡ y → Answers s x ks d r → Answers s y ks d r
+answers_as s x y ks d r e v = record { says = v.says ∙ e; segments = v.segments; sized = v.sized; kept = v.kept }
 
 -- ---- the segments
 some_taken : (stop : ℕ) (h : Head) (n : ℕ) (held : List Segment) → length held ≡ 8 → (n ≡ 0 → ⊥) → some_seen stop (report_of h) (take n held) ≡ ok (report_of h (take n held))
@@ -68,58 +47,67 @@ some_taken stop h zero held l n = impossible (n refl)
 some_taken stop h (suc n) [] l k = impossible (omega arith)
 some_taken stop h (suc n) (g ∷ gs) l k = refl
 
-module _ (s : List ℕ) (from : ℕ) (h : Head) (l : Listed) (el : paper_listed l ≡ seen_from most s h.issue from) (ks d : List ℕ) where
-  listed_is : listed_of s from h ≡ and_then (paper_listed l) (some_seen (length s) (report_of h))
+module _ (s : List ℕ) (from : ℕ) (h : Head) (l : Result Segments Refusal) (el : answer_by segments_held l ≡ seen_from most s h.issue from) (ks d : List ℕ) where
+  listed_is : listed_of s from h ≡ and_then (answer_by segments_held l) (some_seen (length s) (report_of h))
   unfolding listed_of
   listed_is = rw (← el)
 
-  pub listed_refused : (r : Refusal) → l.ending ≡ ending.Refused r → (b : Bulletin) → b ≡ refused_for r → Answers s (listed_of s from h) ks d b
+  pub listed_refused : (w : Refusal) → l ≡ Err w → Answers s (listed_of s from h) ks d (Err w)
   unfolding and_then
-  listed_refused r q b e = refused_answers s (listed_of s from h) ks d b r e (sym (listed_is ∙ ap (λ (e : Ending). and_then (listed_by e l.segments) (some_seen (length s) (report_of h))) q))
+  listed_refused w q = refused_answers s (listed_of s from h) ks d w (sym (listed_is ∙ rw q))
 
-  module _ (q : l.ending ≡ ending.Whole) where
-    whole_is : listed_of s from h ≡ some_seen (length s) (report_of h) (segments_held l.segments)
+  module _ (gs : Segments) (q : l ≡ Ok gs) where
+    whole_is : listed_of s from h ≡ some_seen (length s) (report_of h) (segments_held gs)
     unfolding and_then
-    whole_is = listed_is ∙ ap (λ (e : Ending). and_then (listed_by e l.segments) (some_seen (length s) (report_of h))) q
+    whole_is = listed_is ∙ rw q
 
-    pub listed_none : l.segments.count ≡ 0 → (b : Bulletin) → b ≡ refused_for (refusal_for no_segment (length s)) → Answers s (listed_of s from h) ks d b
-    listed_none z b e = refused_answers s (listed_of s from h) ks d b (refusal_for no_segment (length s)) e (sym (whole_is ∙ rw z))
+    pub listed_none : gs.count ≡ 0 → (w : Refusal) → w ≡ refusal_for NoSegment (length s) → Answers s (listed_of s from h) ks d (Err w)
+    listed_none z w e = refused_answers s (listed_of s from h) ks d w (rw e (sym (whole_is ∙ rw z)))
 
-    pub listed_some : (l.segments.count ≡ 0 → ⊥) → l.segments ≡ segments_for (segments_held l.segments) → Sized l.segments → d ≡ kept_from s h.issue 0 (segments_held l.segments) ks
-        → Answers s (listed_of s from h) ks d (record { reading = reading.Accepted h; segments = l.segments })
+    pub listed_some : (gs.count ≡ 0 → ⊥) → IfOk l (λ gs. gs ≡ segments_for (segments_held gs)) → IfOk l (λ gs. Sized gs) → IfOk l (λ gs. d ≡ kept_from s h.issue 0 (segments_held gs) ks)
+        → Answers s (listed_of s from h) ks d (Ok (record { head = h; segments = gs }))
     listed_some n f z k =
+        let sized : Sized gs = rw q at z in
+        let whole : gs ≡ segments_for (segments_held gs) = rw q at f in
+        let kept : d ≡ kept_from s h.issue 0 (segments_held gs) ks = rw q at k in
         record {
-          says = sym (whole_is ∙ some_taken (length s) h l.segments.count l.segments.held z.long n);
-          segments = f;
-          sized = z;
-          kept = λ g w. let same : h ≡ g = cc in rw (← same) k;
+          says = sym (whole_is ∙ some_taken (length s) h gs.count gs.held sized.long n);
+          segments = λ b e. let same : record { head = h; segments = gs } ≡ b = cc in rw (← same) whole;
+          sized = sized;
+          kept = λ b e. let same : record { head = h; segments = gs } ≡ b = cc in rw (← same) kept;
         }
 
 -- ---- the storm and the first place
-module _ (s : List ℕ) (t : Top) (mnd : ℕ) (em : lines_on s mnd ≡ after_first blank (lines_on s t.third)) (x : Stormed)
-    (ex : paper_stormed x ≡ office_storm (from_first is_office (up_to_first closes (lines_on s mnd)))) where
-  below_is : below_of s t
-      ≡ and_then (paper_stormed x) (λ storm. and_then (from_line3 (after_first closes (lines_on s mnd)) (length s) (lines_on s t.third)) (λ ls. and_then (seen_of (segments_from most s t.issue ls)) (some_seen (length s) (below_top t storm))))
+module _ (s : List ℕ) (t : Top) (mnd : ℕ) (em : lines_on s mnd ≡ after_first blank (lines_on s t.third)) (x : Result (Option StormId) Refusal)
+    (ex : answer_by (option_map paper_id) x ≡ office_storm (from_first is_office (up_to_first closes (lines_on s mnd)))) where
+  -- what follows the storm, and what follows the place
+  abbrev after_place : Option StormName → Answer (List Line) → Answer Report
+  after_place storm y = and_then y (λ ls. and_then (seen_of (segments_from most s t.issue ls)) (some_seen (length s) (below_top t storm)))
+
+  abbrev after_storm : List Line → Option StormName → Answer Report
+  after_storm ls storm = after_place storm (from_line3 (after_first closes ls) (length s) (lines_on s t.third))
+
+  below_is : below_of s t ≡ and_then (answer_by (option_map paper_id) x) (after_storm (lines_on s mnd))
   unfolding below_of
   below_is = rw (ex, em)
 
-  pub below_storm : (r : Refusal) → x ≡ stormed.Refused r → (b : Bulletin) → b ≡ refused_for r → (ks d : List ℕ) → Answers s (below_of s t) ks d b
+  pub below_storm : (w : Refusal) → x ≡ Err w → (ks d : List ℕ) → Answers s (below_of s t) ks d (Err w)
   unfolding and_then
-  below_storm r q b e ks d = refused_answers s (below_of s t) ks d b r e (sym (below_is ∙ rw q))
+  below_storm w q ks d = refused_answers s (below_of s t) ks d w (sym (below_is ∙ rw q))
 
-  module _ (storm : Option StormId) (q : x ≡ stormed.Right storm) (y : Start)
-      (ey : paper_start s y ≡ from_line3 (after_first closes (lines_on s mnd)) (length s) (lines_on s t.third)) where
-    placed : below_of s t ≡ and_then (paper_start s y) (λ ls. and_then (seen_of (segments_from most s t.issue ls)) (some_seen (length s) (below_top t (option_map paper_id storm))))
+  module _ (storm : Option StormId) (q : x ≡ Ok storm) (y : Result ℕ Refusal)
+      (ey : answer_by (lines_on s) y ≡ from_line3 (after_first closes (lines_on s mnd)) (length s) (lines_on s t.third)) where
+    placed : below_of s t ≡ after_place (option_map paper_id storm) (answer_by (lines_on s) y)
     unfolding and_then
-    placed = below_is ∙ ap (λ (k : Stormed). and_then (paper_stormed k) (λ said. and_then (from_line3 (after_first closes (lines_on s mnd)) (length s) (lines_on s t.third)) (λ ls. and_then (seen_of (segments_from most s t.issue ls)) (some_seen (length s) (below_top t said))))) q ∙ rw (← ey)
+    placed = below_is ∙ ap (λ (k : Result (Option StormId) Refusal). and_then (answer_by (option_map paper_id) k) (after_storm (lines_on s mnd))) q ∙ rw (← ey)
 
-    pub below_place : (r : Refusal) → y ≡ start.Refused r → (b : Bulletin) → b ≡ refused_for r → (ks d : List ℕ) → Answers s (below_of s t) ks d b
+    pub below_place : (w : Refusal) → y ≡ Err w → (ks d : List ℕ) → Answers s (below_of s t) ks d (Err w)
     unfolding and_then
-    below_place r z b e ks d = refused_answers s (below_of s t) ks d b r e (sym (placed ∙ ap (λ (k : Start). and_then (paper_start s k) (λ ls. and_then (seen_of (segments_from most s t.issue ls)) (some_seen (length s) (below_top t (option_map paper_id storm))))) z))
+    below_place w z ks d = refused_answers s (below_of s t) ks d w (sym (placed ∙ ap (λ (k : Result ℕ Refusal). after_place (option_map paper_id storm) (answer_by (lines_on s) k)) z))
 
-    pub below_listed : (a : ℕ) → y ≡ start.From a → (b : Bulletin) (ks d : List ℕ) → Answers s (listed_of s a (head_of t storm)) ks d b → Answers s (below_of s t) ks d b
+    pub below_listed : (a : ℕ) → y ≡ Ok a → (r : Result Bulletin Refusal) (ks d : List ℕ) → Answers s (listed_of s a (head_of t storm)) ks d r → Answers s (below_of s t) ks d r
     unfolding and_then listed_of
-    below_listed a z b ks d e = answers_as s (listed_of s a (head_of t storm)) (below_of s t) ks d b (sym (placed ∙ ap (λ (k : Start). and_then (paper_start s k) (λ ls. and_then (seen_of (segments_from most s t.issue ls)) (some_seen (length s) (below_top t (option_map paper_id storm))))) z)) e
+    below_listed a z r ks d e = answers_as s (listed_of s a (head_of t storm)) (below_of s t) ks d r (sym (placed ∙ ap (λ (k : Result ℕ Refusal). after_place (option_map paper_id storm) (answer_by (lines_on s) k)) z)) e
 
 -- ---- the order, cut in three: the text, the top, and what is below
 then_then : {A B C : Type 0} (a : Answer A) (f : A → Answer B) (g : B → Answer C) → and_then (and_then a f) g ≡ and_then a (λ x. and_then (f x) g)
@@ -165,42 +153,42 @@ module _ (stop : ℕ) (t : Top) where
   storm_seen f y (ok storm) = placed_seen f storm y
   storm_seen f y (no number place) = refl
 
-abbrev above_of : List ℕ → Top → Above
-above_of s t = record { heading = paper_heading t.heading; identifier = t.identifier; issue = t.issue; below = lines_on s t.third }
-
 below_seen : (s : List ℕ) (t : Top) → reported (rest s (above_of s t)) ≡ below_of s t
 unfolding below_of
 below_seen s t = storm_seen (length s) t (segments_from most s t.issue) _ _
 
 -- ---- the ways out
-module _ (s : List ℕ) (year month : ℕ) (ks d : List ℕ) (v : Verdict) (ev : paper_verdict v ≡ text_checked s year month) where
-  pub read_checked : (r : Refusal) → v ≡ verdict.Refused r → (b : Bulletin) → b ≡ refused_for r → Answers s (reported (read_bulletin s year month)) ks d b
+module _ (s : List ℕ) (year month : ℕ) (ks d : List ℕ) (v : Result Unit Refusal) (ev : answer_of v ≡ text_checked s year month) where
+  pub read_checked : (w : Refusal) → v ≡ Err w → Answers s (reported (read_bulletin s year month)) ks d (Err w)
   unfolding and_then
-  read_checked r q b e =
-      let w : read_bulletin s year month ≡ paper_refusal r = order s year month ∙ rw (← ev, q) in
-      refused_answers s (reported (read_bulletin s year month)) ks d b r e (sym (ap reported w))
+  read_checked w q =
+      let e : read_bulletin s year month ≡ refused w.reason w.place = order s year month ∙ rw (← ev, q) in
+      refused_answers s (reported (read_bulletin s year month)) ks d w (sym (ap reported e))
 
-  module _ (q : v ≡ verdict.Accepted) (x : Topped) (ex : paper_topped s x ≡ top_of s year month) where
-    topped_is : read_bulletin s year month ≡ and_then (paper_topped s x) (rest s)
+  module _ (u : Unit) (q : v ≡ Ok u) (x : Result Top Refusal) (ex : answer_by (above_of s) x ≡ top_of s year month) where
+    topped_is : read_bulletin s year month ≡ and_then (answer_by (above_of s) x) (rest s)
     unfolding and_then
     topped_is = order s year month ∙ rw (← ev, q, ex)
 
-    pub read_topped : (r : Refusal) → x ≡ topped.Refused r → (b : Bulletin) → b ≡ refused_for r → Answers s (reported (read_bulletin s year month)) ks d b
+    pub read_topped : (w : Refusal) → x ≡ Err w → Answers s (reported (read_bulletin s year month)) ks d (Err w)
     unfolding and_then
-    read_topped r z b e =
-        let w : read_bulletin s year month ≡ paper_refusal r = topped_is ∙ ap (λ (k : Topped). and_then (paper_topped s k) (rest s)) z in
-        refused_answers s (reported (read_bulletin s year month)) ks d b r e (sym (ap reported w))
+    read_topped w z =
+        let e : read_bulletin s year month ≡ refused w.reason w.place = topped_is ∙ ap (λ (k : Result Top Refusal). and_then (answer_by (above_of s) k) (rest s)) z in
+        refused_answers s (reported (read_bulletin s year month)) ks d w (sym (ap reported e))
 
-    pub read_whole : (t : Top) → x ≡ topped.Right t → (b : Bulletin) → Answers s (below_of s t) ks d b → Answers s (reported (read_bulletin s year month)) ks d b
+    pub read_whole : (t : Top) → x ≡ Ok t → (r : Result Bulletin Refusal) → Answers s (below_of s t) ks d r → Answers s (reported (read_bulletin s year month)) ks d r
     unfolding and_then
-    read_whole t z b e =
-        answers_as s (below_of s t) (reported (read_bulletin s year month)) ks d b
-        (sym (below_seen s t) ∙ sym (ap reported (topped_is ∙ ap (λ (k : Topped). and_then (paper_topped s k) (rest s)) z))) e
+    read_whole t z r e =
+        answers_as s (below_of s t) (reported (read_bulletin s year month)) ks d r
+        (sym (below_seen s t) ∙ sym (ap reported (topped_is ∙ ap (λ (k : Result Top Refusal). and_then (answer_by (above_of s) k) (rest s)) z))) e
 
 -- ---- the promise
-pub answers_reads : (s : List ℕ) (year month : ℕ) (ks d : List ℕ) (b : Bulletin) → Answers s (reported (read_bulletin s year month)) ks d b → Reads s year month b
-answers_reads s year month ks d b v =
-    record { says = v.says; segments = v.segments ∙ ap (λ (x : Answer Report). segments_for (segments_reported x)) v.says }
+pub answers_reads : (s : List ℕ) (year month : ℕ) (ks d : List ℕ) (r : Result Bulletin Refusal) → Answers s (reported (read_bulletin s year month)) ks d r → Reads s year month r
+answers_reads s year month ks d r v =
+    record {
+      says = v.says;
+      segments = λ b e. v.segments b e ∙ ap (λ (x : Answer Report). segments_for (segments_reported x)) (sym (ap (answer_by report_said) e) ∙ v.says);
+    }
 
-pub answers_sized : (s : List ℕ) (x : Answer Report) (ks d : List ℕ) (b : Bulletin) → Answers s x ks d b → Sized b.segments
-answers_sized s x ks d b v = v.sized
+pub answers_sized : (s : List ℕ) (x : Answer Report) (ks d : List ℕ) (r : Result Bulletin Refusal) → Answers s x ks d r → IfOk r (λ b. Sized b.segments)
+answers_sized s x ks d r v = v.sized

@@ -13,8 +13,10 @@ use borrow.Author.Tests.{leb-true}
 use Rattle.laws.proofs.Tests.{by, apart}
 use Rattle.laws.proofs.Lists.{all_found}
 use Rattle.laws.specs.Lists.{All, all_nil, all_cons}
+use Rattle.std.specs.Prelude.{Result, Ok, Err}
+use Rattle.refusal.specs.Numbers.{number_of}
 use Rattle.refusal.specs.Answer.{Answer, ok, no, refused, and_then}
-use Rattle.refusal.specs.Numbers.{too_many_places}
+use Rattle.refusal.specs.declared.Reason.TheVariants.{TooManyPlaces}
 use Rattle.refusal.specs.declared.Refusal.{Refusal}
 use Rattle.lines.specs.Lines.{Line, lines_of, is_end, opens}
 use Rattle.calendar.specs.Purge.{purge_of}
@@ -27,7 +29,7 @@ use Rattle.segments.specs.Segments.{Segment, runs_to, past_purge, opened, ninth,
 use Rattle.bulletin.specs.Starts.{first_lines, one_or_more, segments_of}
 use Rattle.bulletin.specs.Bulletin as rule
 use Rattle.bulletin.specs.Bulletin.{read_bulletin}
-use Rattle.segments.specs.Seen.{seen, segments_held}
+use Rattle.segments.specs.Seen.{seen, segments_held, Sized}
 use Rattle.bulletin.specs.Report.{reported, report_of}
 use Rattle.segments.specs.KeptAt.{keep_each}
 use Rattle.bulletin.specs.Kept.{places_of, kept_places, KeepsPlaces}
@@ -35,7 +37,6 @@ use Rattle.segments.specs.KeptBy.{places_said, places_at, kept_from, places_from
 use Rattle.bulletin.specs.Below.{Answers}
 use Rattle.segments.specs.declared.Segment as declared
 use Rattle.bulletin.specs.declared.Head.{Head}
-use Rattle.bulletin.specs.declared.Reading.TheVariants as reading
 use Rattle.bulletin.specs.declared.Bulletin.{Bulletin}
 use Rattle.segments.proofs.Keeping.{kept_part, kept_same}
 use Rattle.bulletin.proofs.Reports.{answers_reads}
@@ -126,7 +127,7 @@ dated_few start at ps (Some t) c e =
     let w : ok (record { purge = t; places = ps }) ≡ ok c = rw y at e in
     let p : record { purge = t; places = ps } ≡ c = cc in
     subst (λ (k : Content). length k.places ≤ capacity) p (leb-true (length ps) capacity y))
-    (λ y. let w : refused too_many_places start ≡ ok c = rw y at e in apart cc)
+    (λ y. let w : refused TooManyPlaces start ≡ ok c = rw y at e in apart cc)
 
 in_few : (issue start : ℕ) (w : Option ℕ) (r : Read) (c : Content) → content_in issue start w r ≡ ok c → length c.places ≤ capacity
 in_few issue start None (block ps s at) c e = dated_few start at ps (purge_of issue s) c e
@@ -152,10 +153,10 @@ told_by text year month h gs (ok b) e f =
 told_by text year month h gs (no number place) e f = apart cc
 
 pub refused_by : (text : List ℕ) (year month : ℕ) (r : Refusal) (a : Answer rule.Bulletin) → read_bulletin text year month ≡ a
-    → no r.number r.place ≡ reported a → read_bulletin text year month ≡ no r.number r.place
+    → refused r.reason r.place ≡ reported a → read_bulletin text year month ≡ refused r.reason r.place
 refused_by text year month r (ok b) e f = apart cc
 refused_by text year month r (no number place) e f =
-    let n : number ≡ r.number = cc in
+    let n : number ≡ number_of r.reason = cc in
     let p : place ≡ r.place = cc in
     e ∙ ap₂ no n p
 
@@ -176,30 +177,33 @@ module _ (text : List ℕ) (issue : ℕ) (gs : List Segment) (a : All (Says text
         ∙ kept_same seen (places_from (keep_each places_of 0 gs ks₀)) places_of 0 gs ks (λ k g e. rw (zero-add k) (part_is k g e))
 
 -- ---- the promise of keeping
-module _ (s : List ℕ) (year month : ℕ) (ks₀ own : List ℕ) (b : Bulletin) (v : Answers s (reported (read_bulletin s year month)) ks₀ own b) (ks : List ℕ) where
-  pub keeps_refused : (r : Refusal) → b.reading ≡ reading.Refused r → KeepsPlaces ks ks s year month b
-  keeps_refused r q =
-      let f : no r.number r.place ≡ reported (read_bulletin s year month) = rw q at v.says in
-      let e = refused_by s year month r (read_bulletin s year month) refl f in
-      record { answer = answers_reads s year month ks₀ own b v; left = sym (ap (λ (x : Answer rule.Bulletin). kept_places x ks) e) }
+module _ (s : List ℕ) (year month : ℕ) (ks₀ own : List ℕ) (r : Result Bulletin Refusal) (v : Answers s (reported (read_bulletin s year month)) ks₀ own r) (ks : List ℕ) where
+  pub keeps_refused : (w : Refusal) → r ≡ Err w → KeepsPlaces ks ks s year month (Err w)
+  keeps_refused w q =
+      let f : refused w.reason w.place ≡ reported (read_bulletin s year month) = rw q at v.says in
+      let e = refused_by s year month w (read_bulletin s year month) refl f in
+      record { answer = rw q at (answers_reads s year month ks₀ own r v); left = sym (ap (λ (x : Answer rule.Bulletin). kept_places x ks) e) }
 
-  module _ (h : Head) (q : b.reading ≡ reading.Accepted h) (long : length ks₀ ≡ 960) where
-    told : Told s year month h (segments_held b.segments)
-    told = told_by s year month h (segments_held b.segments) (read_bulletin s year month) refl (rw q at v.says)
+  module _ (b : Bulletin) (q : r ≡ Ok b) (long : length ks₀ ≡ 960) where
+    told : Told s year month b.head (segments_held b.segments)
+    told = told_by s year month b.head (segments_held b.segments) (read_bulletin s year month) refl (rw q at v.says)
+
+    sized : Sized b.segments
+    sized = rw q at v.sized
 
     few : length told.said.segments ≤ 8
     few =
         let n : length told.said.segments ≡ b.segments.count =
         sym (length-map told.said.segments seen) ∙ ap (λ (gs : List declared.Segment). length gs) (sym told.seen_are)
-        ∙ length-take-le b.segments.count b.segments.held (omega (arith, v.sized.long, v.sized.few)) in
-        omega (arith, v.sized.few)
+        ∙ length-take-le b.segments.count b.segments.held (omega (arith, sized.long, sized.few)) in
+        omega (arith, sized.few)
 
     own_are : own ≡ kept_from s told.said.issue 0 (map seen told.said.segments) ks₀
-    own_are = v.kept h q ∙ ap₂ (λ (i : ℕ) (gs : List declared.Segment). kept_from s i 0 gs ks₀) told.issue told.seen_are
+    own_are = v.kept b q ∙ ap₂ (λ (i : ℕ) (gs : List declared.Segment). kept_from s i 0 gs ks₀) told.issue told.seen_are
 
-    pub keeps_accepted : (d : List ℕ) → d ≡ handed_on own (segments_held b.segments) ks → KeepsPlaces ks d s year month b
+    pub keeps_accepted : (d : List ℕ) → d ≡ handed_on own (segments_held b.segments) ks → KeepsPlaces ks d s year month (Ok b)
     keeps_accepted d e =
         let w : d ≡ keep_each places_of 0 told.said.segments ks =
         e ∙ ap₂ (λ (o : List ℕ) (gs : List declared.Segment). handed_on o gs ks) own_are told.seen_are
         ∙ handed_is s told.said.issue told.said.segments (contents_said s year month told.said told.read) ks₀ few long ks in
-        record { answer = answers_reads s year month ks₀ own b v; left = w ∙ sym (ap (λ (x : Answer rule.Bulletin). kept_places x ks) told.read) }
+        record { answer = rw q at (answers_reads s year month ks₀ own r v); left = w ∙ sym (ap (λ (x : Answer rule.Bulletin). kept_places x ks) told.read) }

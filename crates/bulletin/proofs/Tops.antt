@@ -1,5 +1,5 @@
 -- The top of a bulletin: lines 1 and 2 and the issue. Assumes nothing.
-use Rattle.std.specs.Prelude.{Option, None, Some, option_map}
+use Rattle.std.specs.Prelude.{Option, None, Some, Result, Ok, Err, option_map}
 use Prim.Native.Nat.{ℕ, ◌≤◌}
 use native.Mathlib.Omega.{arith}
 use mathlib.Core.Path.{◌≡◌, sym, ap, ◌∙◌}
@@ -8,10 +8,9 @@ use mathlib.Core.Bool.{Bool, true, false, cond, ◌&&◌}
 use lib.ListN.{length}
 use lib.Dec.{leb}
 use Rattle.laws.proofs.Tests.{by_order}
-use Rattle.refusal.specs.Numbers.{wrong_length, wrong_heading, wrong_identifier, wrong_time}
-use Rattle.refusal.specs.Answer.{ok, no, refusal_for, and_then, paper_verdict}
-use Rattle.refusal.specs.declared.Verdict.{Verdict}
-use Rattle.refusal.specs.declared.Verdict.TheVariants as verdict
+use Rattle.refusal.specs.declared.Reason.TheVariants.{WrongLength, WrongHeading, WrongIdentifier, WrongTime}
+use Rattle.refusal.specs.Answer.{ok, no, refusal_for, and_then, answer_by, answer_of}
+use Rattle.refusal.specs.declared.Refusal.{Refusal}
 use Rattle.lines.specs.Lines.{lines_of}
 use Rattle.lines.specs.Check.{check_text}
 use Rattle.lines.specs.Spans.{span_at, part}
@@ -25,23 +24,22 @@ use Rattle.segments.specs.Search.{lines_after}
 use Rattle.segments.specs.Searching.{lines_on}
 use Rattle.bulletin.specs.Bulletin as rule
 use Rattle.bulletin.specs.Bulletin.{is_length, line1, line2}
-use Rattle.bulletin.specs.Front.{text_checked, second_of, top_of, paper_topped}
-use Rattle.bulletin.specs.declared.Topped.{Topped}
-use Rattle.bulletin.specs.declared.Topped.TheVariants as topped
+use Rattle.bulletin.specs.Front.{text_checked, second_of, top_of, above_of}
+use Rattle.bulletin.specs.declared.Top.{Top}
 use Rattle.segments.proofs.Seeking.{body_of}
 
 -- ---- 1, 5, 2
 module _ (s : List ℕ) (year month : ℕ) where
-  pub check_length : (leb 1 (length s) && leb (length s) 16384) ≡ false → (r : Verdict) → r ≡ verdict.Refused (refusal_for wrong_length 0) → paper_verdict r ≡ text_checked s year month
+  pub check_length : (leb 1 (length s) && leb (length s) 16384) ≡ false → (r : Refusal) → r ≡ refusal_for WrongLength 0 → answer_of (Err r) ≡ text_checked s year month
   unfolding text_checked is_length and_then
   check_length n r e = rw (e, n)
 
   module _ (y : (leb 1 (length s) && leb (length s) 16384) ≡ true) (t : Bool) (et : t ≡ is_issue_month year month) where
-    pub check_month : t ≡ false → (r : Verdict) → r ≡ verdict.Refused (refusal_for wrong_time 0) → paper_verdict r ≡ text_checked s year month
+    pub check_month : t ≡ false → (r : Refusal) → r ≡ refusal_for WrongTime 0 → answer_of (Err r) ≡ text_checked s year month
     unfolding text_checked is_length and_then
     check_month n r e = rw (e, y, ← et, n)
 
-    pub check_text_lem : t ≡ true → (r : Verdict) → paper_verdict r ≡ check_text s → paper_verdict r ≡ text_checked s year month
+    pub check_text_lem : t ≡ true → (r : Result Unit Refusal) → answer_of r ≡ check_text s → answer_of r ≡ text_checked s year month
     unfolding text_checked is_length and_then
     check_text_lem q r e = rw (y, ← et, q) e
 
@@ -60,14 +58,14 @@ module _ (s : List ℕ) (at : ℕ) (f : Option Span) (e : f ≡ span_at s at) (l
 
 -- ---- 3, 4, 5
 pub top_empty : (s : List ℕ) (year month : ℕ) (f : Option Span) → f ≡ span_at s 0 → f ≡ None
-    → (r : Topped) → r ≡ topped.Refused (refusal_for wrong_heading 0) → paper_topped s r ≡ top_of s year month
+    → (r : Refusal) → r ≡ refusal_for WrongHeading 0 → answer_by (above_of s) (Err r) ≡ top_of s year month
 unfolding top_of and_then
 top_empty s year month f e q r p = rw (p, lines_last s 0 (found_none s 0 f e q))
 
 -- line 2, which starts at `second`, and the issue
 module _ (s : List ℕ) (year month second : ℕ) (g : Heading) (fb : Option Span) (eb : fb ≡ span_at s second) where
-  pub second_short : second ≤ length s → fb ≡ None → (r : Topped) → r ≡ topped.Refused (refusal_for wrong_identifier second)
-      → paper_topped s r ≡ second_of s year month (lines_on s second) (paper_heading g)
+  pub second_short : second ≤ length s → fb ≡ None → (r : Refusal) → r ≡ refusal_for WrongIdentifier second
+      → answer_by (above_of s) (Err r) ≡ second_of s year month (lines_on s second) (paper_heading g)
   unfolding second_of and_then
   second_short h z r e =
       let k : length s ≤ second = found_none s second fb eb z in
@@ -78,14 +76,14 @@ module _ (s : List ℕ) (year month second : ℕ) (g : Heading) (fb : Option Spa
     second_line : line2 (length s) (lines_on s second) ≡ cond t (ok second) (no 4 second)
     second_line = line2_is s second fb eb b qb name en ∙ rw (← et)
 
-    pub second_identifier : t ≡ false → (r : Topped) → r ≡ topped.Refused (refusal_for wrong_identifier second)
-        → paper_topped s r ≡ second_of s year month (lines_on s second) (paper_heading g)
+    pub second_identifier : t ≡ false → (r : Refusal) → r ≡ refusal_for WrongIdentifier second
+        → answer_by (above_of s) (Err r) ≡ second_of s year month (lines_on s second) (paper_heading g)
     unfolding second_of and_then
     second_identifier n r e = rw (e, second_line, n)
 
     module _ (y : t ≡ true) (m : Option ℕ) (em : m ≡ minute_of (record { year = year; month = month; stamp = g.stamp })) where
-      pub second_issue : m ≡ None → (r : Topped) → r ≡ topped.Refused (refusal_for wrong_time 0)
-          → paper_topped s r ≡ second_of s year month (lines_on s second) (paper_heading g)
+      pub second_issue : m ≡ None → (r : Refusal) → r ≡ refusal_for WrongTime 0
+          → answer_by (above_of s) (Err r) ≡ second_of s year month (lines_on s second) (paper_heading g)
       unfolding second_of and_then
       second_issue n r e = rw (e, second_line, y, ← em, n)
 
@@ -93,7 +91,7 @@ module _ (s : List ℕ) (year month second : ℕ) (g : Heading) (fb : Option Spa
       third_lines = later_is s second ∙ ap (lines_on s) (sym (found_next s second fb eb b qb))
 
       pub second_right : (issue : ℕ) → m ≡ Some issue
-          → paper_topped s (topped.Right (record { heading = g; identifier = second; issue = issue; third = b.next }))
+          → answer_by (above_of s) (Ok (record { heading = g; identifier = second; issue = issue; third = b.next }))
           ≡ second_of s year month (lines_on s second) (paper_heading g)
       unfolding second_of and_then
       second_right issue z = rw (second_line, y, ← em, z, third_lines)
@@ -102,7 +100,7 @@ module _ (s : List ℕ) (year month : ℕ) (fa : Option Span) (ea : fa ≡ span_
   heading_is : line1 (lines_of s) ≡ rule.headed (option_map paper_heading h)
   heading_is = line1_is s 0 fa ea a qa line el ∙ rw eh
 
-  pub top_heading : h ≡ None → (r : Topped) → r ≡ topped.Refused (refusal_for wrong_heading 0) → paper_topped s r ≡ top_of s year month
+  pub top_heading : h ≡ None → (r : Refusal) → r ≡ refusal_for WrongHeading 0 → answer_by (above_of s) (Err r) ≡ top_of s year month
   unfolding top_of and_then
   top_heading q r e =
       let w : line1 (lines_of s) ≡ no 3 0 = heading_is ∙ ap (λ (x : Option Heading). rule.headed (option_map paper_heading x)) q in
@@ -111,8 +109,8 @@ module _ (s : List ℕ) (year month : ℕ) (fa : Option Span) (ea : fa ≡ span_
   pub second_within : a.next ≤ length s
   second_within = omega (arith, found_next s 0 fa ea a qa, next_within s 0 (omega arith))
 
-  pub top_second : (g : Heading) → h ≡ Some g → (r : Topped) → paper_topped s r ≡ second_of s year month (lines_on s a.next) (paper_heading g)
-      → paper_topped s r ≡ top_of s year month
+  pub top_second : (g : Heading) → h ≡ Some g → (r : Result Top Refusal) → answer_by (above_of s) r ≡ second_of s year month (lines_on s a.next) (paper_heading g)
+      → answer_by (above_of s) r ≡ top_of s year month
   unfolding top_of and_then
   top_second g q r e =
       let first-line : line1 (lines_of s) ≡ ok (paper_heading g) = heading_is ∙ ap (λ (x : Option Heading). rule.headed (option_map paper_heading x)) q in

@@ -1,7 +1,7 @@
 -- Document 01, "Numbered refusals": the order of reading a bulletin.
 use Rattle.std.specs.Prelude.{ℕ, List, [], ◌∷◌, Bool, cond, ◌&&◌, length, leb}
 use Rattle.std.specs.Prelude.{Option, None, Some}
-use Rattle.refusal.specs.Numbers.{wrong_length, wrong_heading, wrong_identifier, wrong_time}
+use Rattle.refusal.specs.declared.Reason.TheVariants.{WrongLength, WrongHeading, WrongIdentifier, WrongTime}
 use Rattle.refusal.specs.Answer.{Answer, ok, refused, must, and_then}
 use Rattle.lines.specs.Lines.{Line, lines_of}
 use Rattle.lines.specs.Check.{check_text}
@@ -22,21 +22,21 @@ is_length text = leb 1 (length text) && leb (length text) text_most
 
 -- line 1
 abbrev pub headed : Option Heading → Answer Heading
-headed None = refused wrong_heading 0
+headed None = refused WrongHeading 0
 headed (Some h) = ok h
 
 abbrev pub line1 : List Line → Answer Heading
-line1 [] = refused wrong_heading 0
+line1 [] = refused WrongHeading 0
 line1 (l ∷ ls) = headed (heading_of l.body)
 
 -- line 2: its start; without it, it would start at text length
 abbrev pub line2 : ℕ → List Line → Answer ℕ
-line2 stop [] = refused wrong_identifier stop
-line2 stop (l ∷ ls) = cond (is_identifier l.body) (ok l.start) (refused wrong_identifier l.start)
+line2 stop [] = refused WrongIdentifier stop
+line2 stop (l ∷ ls) = cond (is_identifier l.body) (ok l.start) (refused WrongIdentifier l.start)
 
 -- "The issue day must exist in its month."
 abbrev pub issued : Option ℕ → Answer ℕ
-issued None = refused wrong_time 0
+issued None = refused WrongTime 0
 issued (Some minute) = ok minute
 
 -- what a bulletin says
@@ -50,8 +50,8 @@ pub record Bulletin : Type 0 where
 -- "Order, reading: 1, 5 (year, month), 2, 3, 4, 5 (issue), 10, then 6 at the start of a line 3 that opens nothing, or 7 (also without a line 3); then segment by segment 9, 6, 25, 5, 11, 8."
 unfoldable pub read_bulletin : List ℕ → ℕ → ℕ → Answer Bulletin
 read_bulletin text year month =
-    and_then (must (is_length text) wrong_length 0) λ _.
-    and_then (must (is_issue_month year month) wrong_time 0) λ _.
+    and_then (must (is_length text) WrongLength 0) λ _.
+    and_then (must (is_issue_month year month) WrongTime 0) λ _.
     and_then (check_text text) λ _.
     and_then (line1 (lines_of text)) λ heading.
     and_then (line2 (length text) (lines_after (lines_of text))) λ identifier.

@@ -1,7 +1,7 @@
 -- Document 01, "Text and lines": the MND block, its office line and the storm.
 use Rattle.std.specs.Prelude.{◌+◌, ◌-◌, List, [], ◌∷◌, length}
 use Rattle.std.specs.Prelude.{Option, None, Some}
-use Rattle.refusal.specs.Numbers.{wrong_storm}
+use Rattle.refusal.specs.declared.Reason.TheVariants.{WrongStorm}
 use Rattle.refusal.specs.Answer.{Answer, ok, refused}
 use Rattle.lines.specs.Lines.{Line, blank}
 use Rattle.heading.specs.Storm as storm
@@ -28,7 +28,7 @@ office_lines lines = from_first is_office (mnd_lines lines)
 abbrev pub storm_said : Line → StormSaid → Answer (Option StormName)
 storm_said l storm.no_storm = ok None
 storm_said l (storm.storm name) = ok (Some name)
-storm_said l storm.refused_storm = refused wrong_storm (l.start + (length l.body - 8))
+storm_said l storm.refused_storm = refused WrongStorm (l.start + (length l.body - 8))
 
 abbrev pub office_storm : List Line → Answer (Option StormName)
 office_storm [] = ok None

@@ -1,17 +1,15 @@
 -- The reader's answer: what a bulletin says, with each segment's places in the text, purge minute and count.
-use Rattle.std.specs.Prelude.{Option, option_map}
+use Rattle.std.specs.Prelude.{Option, Result, Ok, option_map}
 use Rattle.std.specs.Prelude.{ℕ, ◌≡◌, List, [], map}
-use Rattle.refusal.specs.Answer.{Answer, ok, no, paper_refusal}
+use Rattle.refusal.specs.Answer.{Answer, ok, no, answer_by}
+use Rattle.refusal.specs.declared.Refusal.{Refusal}
 use Rattle.heading.specs.Heading.{Heading}
 use Rattle.heading.specs.Storm.{StormName}
 use Rattle.heading.specs.Paper.{paper_heading, paper_id}
 use Rattle.bulletin.specs.Bulletin as rule
 use Rattle.segments.specs.Seen.{seen, segments_for, segments_held}
 use Rattle.segments.specs.declared.Segment.{Segment}
-use Rattle.segments.specs.declared.Segments.{Segments}
 use Rattle.bulletin.specs.declared.Head.{Head}
-use Rattle.bulletin.specs.declared.Reading.{Reading}
-use Rattle.bulletin.specs.declared.Reading.TheVariants as reading
 use Rattle.bulletin.specs.declared.Bulletin.{Bulletin}
 
 pub record Report : Type 0 where
@@ -29,19 +27,16 @@ reported (no number place) = no number place
 abbrev pub report_of : Head → List Segment → Report
 report_of h gs = record { heading = paper_heading h.heading; identifier = h.identifier; issue = h.issue; storm = option_map paper_id h.storm; segments = gs }
 
-abbrev pub reading_of : Reading → Segments → Answer Report
-reading_of (reading.Accepted h) gs = ok (report_of h (segments_held gs))
-reading_of (reading.Refused r) gs = paper_refusal r
-
-abbrev pub paper_bulletin : Bulletin → Answer Report
-paper_bulletin b = reading_of b.reading b.segments
+-- all that a bulletin says
+abbrev pub report_said : Bulletin → Report
+report_said b = report_of b.head (segments_held b.segments)
 
 -- ---- the promise of reading
 abbrev pub segments_reported : Answer Report → List Segment
 segments_reported (ok r) = r.segments
 segments_reported (no number place) = []
 
--- what the answer says, and the array of its segments: on a refusal none
-pub record Reads (text : List ℕ) (year month : ℕ) (b : Bulletin) : Type 0 where
-  pub says : paper_bulletin b ≡ reported (rule.read_bulletin text year month)
-  pub segments : b.segments ≡ segments_for (segments_reported (reported (rule.read_bulletin text year month)))
+-- what the answer says, and the array of its segments
+pub record Reads (text : List ℕ) (year month : ℕ) (r : Result Bulletin Refusal) : Type 0 where
+  pub says : answer_by report_said r ≡ reported (rule.read_bulletin text year month)
+  pub segments : (b : Bulletin) → r ≡ Ok b → b.segments ≡ segments_for (segments_reported (reported (rule.read_bulletin text year month)))

@@ -1,18 +1,16 @@
 -- Document 01: "The core hands back the segment as a part of the caller's own text, line ends with it, by number from 1."
 use Rattle.std.specs.Prelude.{ℕ, zero, suc, List, [], ◌∷◌}
-use Rattle.refusal.specs.Numbers.{no_such_segment}
-use Rattle.refusal.specs.Answer.{Answer, ok, no, refused, and_then, paper_refusal}
+use Rattle.refusal.specs.declared.Reason.TheVariants.{NoSuchSegment}
+use Rattle.refusal.specs.Answer.{Answer, ok, no, refused, and_then}
 use Rattle.lines.specs.Spans.{part}
 use Rattle.bulletin.specs.Bulletin.{read_bulletin}
 use Rattle.bulletin.specs.Report.{Report, reported}
 use Rattle.segments.specs.declared.Segment.{Segment}
-use Rattle.bulletin.specs.declared.Viewed.{Viewed}
-use Rattle.bulletin.specs.declared.Viewed.TheVariants as viewed
 
 -- "A view's 15 comes last."
 unfoldable pub numbered : ℕ → List Segment → Answer Segment
-numbered n [] = refused no_such_segment 0
-numbered zero (g ∷ gs) = refused no_such_segment 0
+numbered n [] = refused NoSuchSegment 0
+numbered zero (g ∷ gs) = refused NoSuchSegment 0
 numbered (suc zero) (g ∷ gs) = ok g
 numbered (suc (suc n)) (g ∷ gs) = numbered (suc n) gs
 
@@ -21,10 +19,6 @@ segment_in n r = numbered n r.segments
 
 unfoldable pub view_of : List ℕ → ℕ → ℕ → ℕ → Answer Segment
 view_of text year month n = and_then (reported (read_bulletin text year month)) (segment_in n)
-
-abbrev pub paper_viewed : Viewed → Answer Segment
-paper_viewed (viewed.One g) = ok g
-paper_viewed (viewed.Refused r) = paper_refusal r
 
 abbrev pub accepted : Answer Segment → Answer Unit
 accepted (ok g) = ok tt

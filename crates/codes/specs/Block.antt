@@ -1,7 +1,7 @@
 -- Document 01, "Segments and place code blocks": the whole block, read element after element.
 use Rattle.std.specs.Prelude.{ℕ, zero, suc, ◌+◌, ◌-◌, ◌≤◌, ◌≡◌, List, [], ◌∷◌, Bool, true, false, cond, ◌&&◌, ◌||◌, length, drop, ltb, leb, eqb}
 use Rattle.std.specs.Prelude.{Option, None, Some}
-use Rattle.refusal.specs.Numbers.{wrong_time, wrong_block, too_many_places, place_twice}
+use Rattle.refusal.specs.declared.Reason.TheVariants.{WrongTime, WrongBlock, TooManyPlaces, PlaceTwice}
 use Rattle.refusal.specs.Answer.{Answer, ok, refused}
 use Rattle.calendar.specs.Purge.{purge_of}
 use Rattle.calendar.specs.declared.Stamp.{Stamp}
@@ -98,18 +98,18 @@ pub record Content : Type 0 where
 
 -- In each segment 6 comes first, then 25 at the element that repeats a place, then 5 at the purge element, then 11 at the segment's start.
 abbrev pub counted : ℕ → Content → Answer Content
-counted start c = cond (leb (length c.places) capacity) (ok c) (refused too_many_places start)
+counted start c = cond (leb (length c.places) capacity) (ok c) (refused TooManyPlaces start)
 
 abbrev pub dated : ℕ → ℕ → List ℕ → Option ℕ → Answer Content
-dated start at ps None = refused wrong_time at
+dated start at ps None = refused WrongTime at
 dated start at ps (Some t) = counted start (record { purge = t; places = ps })
 
 abbrev pub once : Option ℕ → Answer Content → Answer Content
 once None a = a
-once (Some place) a = refused place_twice place
+once (Some place) a = refused PlaceTwice place
 
 abbrev pub content_in : ℕ → ℕ → Option ℕ → Read → Answer Content
-content_in issue start twice (wrong_at place) = refused wrong_block place
+content_in issue start twice (wrong_at place) = refused WrongBlock place
 content_in issue start twice (block ps s at) = once twice (dated start at ps (purge_of issue s))
 
 -- the content of the segment that starts at a place of the text, under an issue

@@ -4,15 +4,15 @@ use native.Mathlib.Omega.{arith}
 use mathlib.Core.Path.{◌≡◌, refl, sym, ap, ap₂, subst, ◌∙◌}
 use mathlib.Core.List.{List}
 use mathlib.Core.Bool.{Bool, true, false}
-use Rattle.std.specs.Prelude.{Option, None, Some}
+use Rattle.std.specs.Prelude.{Option, None, Some, Ok, Err}
 use lib.ListN.{length, get_or, get_or-eq_default}
 use lib.Dec.{eqb}
 use borrow.Author.Tests.{eqb-true, eqb-false}
 use Rattle.laws.proofs.Tests.{by, by_order, apart}
-use Rattle.refusal.specs.Numbers.{wrong_length, not_sound, no_draft, no_such_segment, out_of_range, not_taken}
-use Rattle.refusal.specs.Answer.{Answer, ok, no, refused, must, and_then, paper_verdict, paper_refusal}
+use Rattle.refusal.specs.declared.Reason.TheVariants.{WrongLength, NotSound, NoDraft, NoSuchSegment, OutOfRange, NotTaken}
+use Rattle.refusal.specs.Answer.{Answer, ok, no, refused, must, and_then, answer_of}
+use Rattle.refusal.specs.Numbers.{number_of}
 use Rattle.refusal.specs.declared.Refusal.{Refusal}
-use Rattle.refusal.specs.declared.Verdict.TheVariants.{Accepted, Refused}
 use Rattle.codes.specs.Places.{capacity}
 use Rattle.codes.specs.Block.{Content}
 use Rattle.blocks.specs.Block.{book_length, block_count, number_at, block_of, put_block, Bytes}
@@ -139,7 +139,7 @@ pub record Same (l : List ℕ) (a : BookAnswer) (c : Call) : Type 0 where
   pub bytes : l ≡ (on_bytes l c).1
 
 -- 16
-pub absent_at : (l : List ℕ) (d s : ℕ) (e : Edit) → Base l → Admitted l d s → in_range (editing e) ≡ true → copy_block l d s ≡ None → Same l (refused not_taken 0) (on d s (editing e))
+pub absent_at : (l : List ℕ) (d s : ℕ) (e : Edit) → Base l → Admitted l d s → in_range (editing e) ≡ true → copy_block l d s ≡ None → Same l (refused NotTaken 0) (on d s (editing e))
 unfolding copy_block
 absent_at l d s e base a r q =
     let o = opened_at (book_of l).drafts d a.opened in
@@ -147,7 +147,7 @@ absent_at l d s e base a r q =
     let f : block_in d (index_of s o.ks) ≡ None = ap (λ (x : Draft). block_in d (index_of s (copies_of x))) (sym o.there) ∙ q in
     let absent : copy_of s o.ks ≡ None = index_none s o.ks (behind (index_of s o.ks) f) in
     let low : o.k < 4 = omega (arith, o.low, base.lies.four) in
-    subst (λ (i : ℕ). Same l (refused not_taken 0) (on i s (editing e))) (sym o.is)
+    subst (λ (i : ℕ). Same l (refused NotTaken 0) (on i s (editing e))) (sym o.is)
     (record {
       answer = sym (absent_answer l base o.k o.ks o.stale low o.here s c.0 c.1 e r absent);
       bytes = sym (absent_bytes l base o.k o.ks o.stale low o.here s c.0 c.1 e r absent);
@@ -172,14 +172,14 @@ as_answer e = let a = ap number_of e in let b = ap place_of e in ap₂ no a b
 
 -- what is asked of a sound book: its draft, the range, the segment
 abbrev asked : Draft → Bool → Option Content → Answer Unit
-asked x r h = and_then (must (is_open x) no_draft 0) λ _. and_then (must r out_of_range 0) λ _. must (exists h) no_such_segment 0
+asked x r h = and_then (must (is_open x) NoDraft 0) λ _. and_then (must r OutOfRange 0) λ _. must (exists h) NoSuchSegment 0
 
 module _ (l : List ℕ) (d s : ℕ) where
-  short_asks : (r : Bool) → eqb (length l) book_length ≡ false → admission l d r s ≡ refused wrong_length 0
+  short_asks : (r : Bool) → eqb (length l) book_length ≡ false → admission l d r s ≡ refused WrongLength 0
   unfolding admission and_then
   short_asks r t = rw t
 
-  bad_asks : (r : Bool) → eqb (length l) book_length ≡ true → is_sound l ≡ false → admission l d r s ≡ refused not_sound 0
+  bad_asks : (r : Bool) → eqb (length l) book_length ≡ true → is_sound l ≡ false → admission l d r s ≡ refused NotSound 0
   unfolding admission and_then
   bad_asks r t u = rw (t, u)
 
@@ -190,11 +190,11 @@ module _ (l : List ℕ) (d s : ℕ) where
   stays_is : (c : Call) (a : BookAnswer) → on_bytes l c ≡ (a, l) → Same l a c
   stays_is c a e = record { answer = sym (ap (λ (x : BookAnswer × List ℕ). x.0) e); bytes = sym (ap (λ (x : BookAnswer × List ℕ). x.1) e) }
 
-  short_is : (c : Call) → eqb (length l) book_length ≡ false → Same l (refused wrong_length 0) c
-  short_is c t = stays_is c (refused wrong_length 0) (bytes_refused l c 1 0 (rule_short l c (eqb-false (length l) book_length t)))
+  short_is : (c : Call) → eqb (length l) book_length ≡ false → Same l (refused WrongLength 0) c
+  short_is c t = stays_is c (refused WrongLength 0) (bytes_refused l c 1 0 (rule_short l c (eqb-false (length l) book_length t)))
 
-  bad_is : (c : Call) → eqb (length l) book_length ≡ true → is_sound l ≡ false → Same l (refused not_sound 0) c
-  bad_is c t u = stays_is c (refused not_sound 0) (bytes_refused l c 12 0 (rule_unsound l c (eqb-true (length l) book_length t) u))
+  bad_is : (c : Call) → eqb (length l) book_length ≡ true → is_sound l ≡ false → Same l (refused NotSound 0) c
+  bad_is c t u = stays_is c (refused NotSound 0) (bytes_refused l c 12 0 (rule_unsound l c (eqb-true (length l) book_length t) u))
 
   module _ (base : Base l) where
     -- what a refused call on sound bytes says
@@ -211,11 +211,11 @@ module _ (l : List ℕ) (d s : ℕ) where
     asked_is w n p (working ks stale) true (Some c) ex er eh e = apart cc
 
   -- what the admission refuses
-  pub refused_at_lem : (w : Work) (r : Refusal) → Bytes l → paper_verdict (Refused r) ≡ admission l d (in_range w) s → Same l (paper_refusal r) (on d s w)
+  pub refused_at_lem : (w : Work) (r : Refusal) → Bytes l → answer_of (Err r) ≡ admission l d (in_range w) s → Same l (refused r.reason r.place) (on d s w)
   refused_at_lem w r y e =
       by (eqb (length l) book_length)
       (λ t. by (is_sound l)
-      (λ u. asked_is (base_of l y u) w r.number r.place (draft_at (book_of l).drafts d) (in_range w) (at (book_of l).segments s) refl refl refl
+      (λ u. asked_is (base_of l y u) w (number_of r.reason) r.place (draft_at (book_of l).drafts d) (in_range w) (at (book_of l).segments s) refl refl refl
       (sym (e ∙ sound_asks (in_range w) t u)))
       (λ u. subst (λ (a : BookAnswer). Same l a (on d s w)) (as_answer (sym (e ∙ bad_asks (in_range w) t u))) (bad_is (on d s w) t u)))
       (λ t. subst (λ (a : BookAnswer). Same l a (on d s w)) (as_answer (sym (e ∙ short_asks (in_range w) t))) (short_is (on d s w) t))
@@ -228,7 +228,7 @@ module _ (l : List ℕ) (d s : ℕ) where
   accepted_of (working ks stale) true None e = apart cc
   accepted_of (working ks stale) true (Some c) e = (refl, refl, refl)
 
-  pub admitted_at : (r : Bool) → paper_verdict Accepted ≡ admission l d r s → Admitted l d s
+  pub admitted_at : (r : Bool) → answer_of (Ok tt) ≡ admission l d r s → Admitted l d s
   admitted_at r e =
       by (eqb (length l) book_length)
       (λ t. by (is_sound l)
@@ -243,7 +243,7 @@ module _ (l : List ℕ) (d s : ℕ) where
       (λ u. let f = e ∙ bad_asks r t u in apart cc))
       (λ t. let f = e ∙ short_asks r t in apart cc)
 
-  pub ranged_at : (r : Bool) → paper_verdict Accepted ≡ admission l d r s → r ≡ true
+  pub ranged_at : (r : Bool) → answer_of (Ok tt) ≡ admission l d r s → r ≡ true
   ranged_at r e =
       by (eqb (length l) book_length)
       (λ t. by (is_sound l)

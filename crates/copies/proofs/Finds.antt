@@ -11,10 +11,10 @@ use lib.Dec.{eqb, leb}
 use borrow.Author.Tests.{eqb-true, eqb-false, eq-eqb, ne_eqb, le-leb, lt-leb, not-true, not-false}
 use Rattle.laws.proofs.Tests.{by, by_order, impossible, apart}
 use Rattle.laws.proofs.Lookups.{get_none}
-use Rattle.refusal.specs.Numbers.{wrong_length, not_sound, no_draft, no_such_segment, out_of_range}
-use Rattle.refusal.specs.Answer.{and_then, refusal_for, paper_verdict}
-use Rattle.refusal.specs.declared.Verdict.{Verdict}
-use Rattle.refusal.specs.declared.Verdict.TheVariants.{Accepted, Refused}
+use Rattle.refusal.specs.declared.Reason.TheVariants.{WrongLength, NotSound, NoDraft, NoSuchSegment, OutOfRange}
+use Rattle.refusal.specs.Answer.{and_then, refusal_for, answer_of}
+use Rattle.refusal.specs.declared.Refusal.{Refusal}
+use Rattle.std.specs.Prelude.{Ok, Err}
 use Rattle.blocks.specs.Block.{book_length}
 use Rattle.steps.specs.Book.{Draft, closed, at, or_closed, draft_at}
 use Rattle.layout.specs.Layout.{copies_of, copies_at, draft_of, book_of}
@@ -60,22 +60,22 @@ module _ (l : List ℕ) where
 
 -- ---- the admission, refusal by refusal
 module _ (l : List ℕ) (d : ℕ) (r : Bool) (s : ℕ) where
-  pub admit_short : (v : Verdict) → (length l ≡ book_length → ⊥) → v ≡ Refused (refusal_for wrong_length 0) → paper_verdict v ≡ admission l d r s
+  pub admit_short : (w : Refusal) → (length l ≡ book_length → ⊥) → w ≡ refusal_for WrongLength 0 → answer_of (Err w) ≡ admission l d r s
   unfolding admission and_then
-  admit_short v h e = rw (e, ne_eqb (length l) book_length h)
+  admit_short f h e = rw (e, ne_eqb (length l) book_length h)
 
   module _ (long : length l ≡ book_length) (sound : Bool) (is-sound : sound ≡ is_sound l) where
-    pub admit_bad : (v : Verdict) → not sound ≡ true → v ≡ Refused (refusal_for not_sound 0) → paper_verdict v ≡ admission l d r s
+    pub admit_bad : (w : Refusal) → not sound ≡ true → w ≡ refusal_for NotSound 0 → answer_of (Err w) ≡ admission l d r s
     unfolding admission and_then
-    admit_bad v h e = let t : is_sound l ≡ false = sym is-sound ∙ not-true sound h in rw (e, eq-eqb (length l) book_length long, t)
+    admit_bad f h e = let t : is_sound l ≡ false = sym is-sound ∙ not-true sound h in rw (e, eq-eqb (length l) book_length long, t)
 
     module _ (good : not sound ≡ false) (opened : Bool) (opened_is : opened ≡ is_open (draft_at (book_of l).drafts d)) where
       t : is_sound l ≡ true
       t = sym is-sound ∙ not-false sound good
 
-      pub admit_shut : (v : Verdict) → not opened ≡ true → v ≡ Refused (refusal_for no_draft 0) → paper_verdict v ≡ admission l d r s
+      pub admit_shut : (w : Refusal) → not opened ≡ true → w ≡ refusal_for NoDraft 0 → answer_of (Err w) ≡ admission l d r s
       unfolding admission and_then
-      admit_shut v h e =
+      admit_shut f h e =
           let u : is_open (draft_at (book_of l).drafts d) ≡ false = sym opened_is ∙ not-true opened h in
           rw (e, eq-eqb (length l) book_length long, t, u)
 
@@ -83,19 +83,19 @@ module _ (l : List ℕ) (d : ℕ) (r : Bool) (s : ℕ) where
         u : is_open (draft_at (book_of l).drafts d) ≡ true
         u = sym opened_is ∙ not-false opened ready
 
-        pub admit_far : (v : Verdict) → not r ≡ true → v ≡ Refused (refusal_for out_of_range 0) → paper_verdict v ≡ admission l d r s
+        pub admit_far : (w : Refusal) → not r ≡ true → w ≡ refusal_for OutOfRange 0 → answer_of (Err w) ≡ admission l d r s
         unfolding admission and_then
-        admit_far v h e = let w : r ≡ false = not-true r h in rw (e, eq-eqb (length l) book_length long, t, u, w)
+        admit_far f h e = let w : r ≡ false = not-true r h in rw (e, eq-eqb (length l) book_length long, t, u, w)
 
         module _ (near : not r ≡ false) (there : Bool) (is-there : there ≡ exists (at (book_of l).segments s)) where
-          pub admit_none : (v : Verdict) → not there ≡ true → v ≡ Refused (refusal_for no_such_segment 0) → paper_verdict v ≡ admission l d r s
+          pub admit_none : (w : Refusal) → not there ≡ true → w ≡ refusal_for NoSuchSegment 0 → answer_of (Err w) ≡ admission l d r s
           unfolding admission and_then
-          admit_none v h e =
+          admit_none f h e =
               let w : r ≡ true = not-false r near in
               let x : exists (at (book_of l).segments s) ≡ false = sym is-there ∙ not-true there h in
               rw (e, eq-eqb (length l) book_length long, t, u, w, x)
 
-          pub admit_all : not there ≡ false → paper_verdict Accepted ≡ admission l d r s
+          pub admit_all : not there ≡ false → answer_of (Ok tt) ≡ admission l d r s
           unfolding admission and_then
           admit_all h =
               let w : r ≡ true = not-false r near in

@@ -1,5 +1,5 @@
 -- The ways out of a work on a draft's copy that the calls share: it is refused, or there is a copy. Assumes nothing.
-use Rattle.std.specs.Prelude.{Option, None, Some}
+use Rattle.std.specs.Prelude.{Option, None, Some, Result, Ok, Err}
 use Prim.Native.Nat.{ℕ, ◌≤◌, ◌<◌}
 use native.Mathlib.Omega.{arith}
 use mathlib.Core.Path.{◌≡◌, sym, ap, ◌∙◌}
@@ -7,11 +7,9 @@ use mathlib.Core.List.{List}
 use mathlib.Core.Bool.{Bool, true}
 use lib.ListN.{length, get_or, take}
 use lib.Seq.{length-take-le}
-use Rattle.refusal.specs.Numbers.{not_taken}
-use Rattle.refusal.specs.Answer.{refusal_for, paper_verdict}
+use Rattle.refusal.specs.declared.Reason.TheVariants.{NotTaken}
+use Rattle.refusal.specs.Answer.{refusal_for, answer_of}
 use Rattle.refusal.specs.declared.Refusal.{Refusal}
-use Rattle.refusal.specs.declared.Verdict.{Verdict}
-use Rattle.refusal.specs.declared.Verdict.TheVariants.{Accepted, Refused}
 use Rattle.codes.specs.Block.{Content}
 use Rattle.codes.specs.Places.{capacity}
 use Rattle.blocks.specs.Block.{book_length, block_count, number_at, block_of, Bytes}
@@ -20,29 +18,27 @@ use Rattle.blocks.specs.Held.{held_content, Fits}
 use Rattle.blocks.specs.declared.Held.{Held}
 use Rattle.steps.specs.Calls.{Edit, Work, editing, on, in_range}
 use Rattle.steps.proofs.Leaving.{edited}
-use Rattle.layout.specs.Rule.{on_bytes, paper_reply, Does}
-use Rattle.layout.specs.declared.Reply.{Reply}
-use Rattle.layout.specs.declared.Reply.TheVariants as reply
+use Rattle.layout.specs.Rule.{on_bytes, Does}
 use Rattle.copies.specs.Admission.{admission}
 use Rattle.copies.specs.Copies.{copy_block, Admitted}
 use Rattle.copies.proofs.Works.{base_of}
 use Rattle.copies.proofs.Admits.{Works, works_at, absent_at, refused_at_lem, admitted_at, ranged_at}
 
 -- the admission accepts
-module _ (l : List ℕ) (d s : ℕ) (v : Verdict) (t : Bool) (is : v ≡ Accepted) (says : paper_verdict v ≡ admission l d t s) where
+module _ (l : List ℕ) (d s : ℕ) (v : Result Unit Refusal) (t : Bool) (is : v ≡ Ok tt) (says : answer_of v ≡ admission l d t s) where
   pub admitting : Admitted l d s
-  admitting = admitted_at l d s t (sym (ap paper_verdict is) ∙ says)
+  admitting = admitted_at l d s t (sym (ap answer_of is) ∙ says)
 
   pub ranging : t ≡ true
-  ranging = ranged_at l d s t (sym (ap paper_verdict is) ∙ says)
+  ranging = ranged_at l d s t (sym (ap answer_of is) ∙ says)
 
-module _ (l : List ℕ) (y : Bytes l) (d s : ℕ) (v : Verdict) where
+module _ (l : List ℕ) (y : Bytes l) (d s : ℕ) (v : Result Unit Refusal) where
   -- the admission refuses
-  module _ (w : Work) (r : Refusal) (is : v ≡ Refused r) (says : paper_verdict v ≡ admission l d (in_range w) s) where
-    pub refused_does : Does l l (on d s w) (reply.Refused r)
-    refused_does = let same = refused_at_lem l d s w r y (sym (ap paper_verdict is) ∙ says) in record { answer = same.answer; left = same.bytes }
+  module _ (w : Work) (r : Refusal) (is : v ≡ Err r) (says : answer_of v ≡ admission l d (in_range w) s) where
+    pub refused_does : Does l l (on d s w) (Err r)
+    refused_does = let same = refused_at_lem l d s w r y (sym (ap answer_of is) ∙ says) in record { answer = same.answer; left = same.bytes }
 
-  module _ (t : Bool) (is : v ≡ Accepted) (says : paper_verdict v ≡ admission l d t s) where
+  module _ (t : Bool) (is : v ≡ Ok tt) (says : answer_of v ≡ admission l d t s) where
     in_book_lem : Admitted l d s
     in_book_lem = admitting l d s v t is says
 
@@ -62,11 +58,11 @@ module _ (l : List ℕ) (y : Bytes l) (d s : ℕ) (v : Verdict) where
         load_few = (working k q).few
 
       -- there is none
-      module _ (e : Edit) (r : in_range (editing e) ≡ true) (none : f ≡ None) (a : Reply) (answers : a ≡ reply.Refused (refusal_for not_taken 0)) where
-        pub absent_does : Does l l (on d s (editing e)) a
+      module _ (e : Edit) (r : in_range (editing e) ≡ true) (none : f ≡ None) (a : Refusal) (answers : a ≡ refusal_for NotTaken 0) where
+        pub absent_does : Does l l (on d s (editing e)) (Err a)
         absent_does =
             let same = absent_at l d s e (base_of l y in_book_lem.sound) in_book_lem r (sym is_at ∙ none) in
-            record { answer = ap paper_reply answers ∙ same.answer; left = same.bytes }
+            record { answer = rw answers same.answer; left = same.bytes }
 
 -- ---- a work on the copy, by the content that was loaded
 pub count_is : (h : Held) → Fits h → length (take h.count h.places) ≡ h.count

@@ -11,7 +11,7 @@ use lib.Seq.{set-get_or}
 use Rattle.laws.proofs.Tests.{apart}
 use Rattle.laws.proofs.Lists.{all_get, all_found}
 use Rattle.laws.proofs.Lookups.{get_low}
-use Rattle.refusal.specs.Numbers.{not_taken}
+use Rattle.refusal.specs.declared.Reason.TheVariants.{NotTaken}
 use Rattle.refusal.specs.Answer.{Answer, ok, no, refused}
 use Rattle.codes.specs.Places.{capacity}
 use Rattle.codes.specs.Block.{Content}
@@ -90,10 +90,10 @@ module _ (l : List ℕ) (base : Base l) (k : ℕ) (ks : List Copy) (stale : Bool
   module _ (e : Edit) (r : in_range (editing e) ≡ true) where
     -- 16
     module _ (absent : copy_of s ks ≡ None) where
-      nothing : on_bytes l (on (suc k) s (editing e)) ≡ (refused not_taken 0, l)
+      nothing : on_bytes l (on (suc k) s (editing e)) ≡ (refused NotTaken 0, l)
       nothing = book_refused l (on (suc k) s (editing e)) base.lies.long base.sound 16 0 (on_absent b (suc k) ks stale there_at s c₀ there e r absent)
 
-      pub absent_answer : (on_bytes l (on (suc k) s (editing e))).0 ≡ refused not_taken 0
+      pub absent_answer : (on_bytes l (on (suc k) s (editing e))).0 ≡ refused NotTaken 0
       absent_answer = ap (λ (x : BookAnswer × List ℕ). x.0) nothing
 
       pub absent_bytes : (on_bytes l (on (suc k) s (editing e))).1 ≡ l

@@ -3,20 +3,14 @@
 #![tactic(auto)]
 
 ghost use Rattle.std.specs.Prelude.{◌≡◌, length};
-ghost use Rattle.refusal.specs.Answer.{paper_verdict};
+ghost use Rattle.refusal.specs.Answer.{answer_of};
 ghost use Rattle.blocks.specs.Block.{book_length};
 ghost use Rattle.steps.specs.Book.{at, draft_at};
 ghost use Rattle.layout.specs.Layout.{book_of};
 ghost use Rattle.copies.specs.Admission.{is_open, exists, admission};
 ghost use Rattle.copies.specs.Copies.{copy_block, Admitted};
 
-use refusal::{Refusal, Verdict};
-
-fn wrong(number: usize) -> Verdict
-    ensures { result ≡ Verdict.Refused (record { number = number; place = 0 }) }
-{
-    Verdict::Refused(Refusal { number, place: 0 })
-}
+use refusal::{Reason, Refusal};
 
 // Whether a draft is one of the four, and open.
 pub fn is_open(book: &[u8], d: usize) -> bool
@@ -46,28 +40,25 @@ pub fn is_there(book: &[u8], s: usize) -> bool
 }
 
 // What every work of a draft on a segment asks first.
-pub fn admit(book: &[u8], d: usize, in_range: bool, s: usize) -> Verdict
-    ensures { paper_verdict result ≡ admission book.now d in_range s }
+pub fn admit(book: &[u8], d: usize, in_range: bool, s: usize) -> Result<(), Refusal>
+    ensures { answer_of result ≡ admission book.now d in_range s }
 {
     if book.len() != 25088 {
-        return wrong(refusal::WRONG_LENGTH);
+        return Err(Reason::WrongLength.into());
     }
-    let sound = layout::is_sound(book);
-    if !sound {
-        return wrong(refusal::NOT_SOUND);
+    if !layout::is_sound(book) {
+        return Err(Reason::NotSound.into());
     }
-    let open = is_open(book, d);
-    if !open {
-        return wrong(refusal::NO_DRAFT);
+    if !is_open(book, d) {
+        return Err(Reason::NoDraft.into());
     }
     if !in_range {
-        return wrong(refusal::OUT_OF_RANGE);
+        return Err(Reason::OutOfRange.into());
     }
-    let there = is_there(book, s);
-    if !there {
-        return wrong(refusal::NO_SUCH_SEGMENT);
+    if !is_there(book, s) {
+        return Err(Reason::NoSuchSegment.into());
     }
-    Verdict::Accepted
+    Ok(())
 }
 
 // The block of a draft's copy of a segment.

@@ -1,16 +1,17 @@
 -- The lowest closed draft, and the ways out of `open`. Assumes nothing.
+use Rattle.std.specs.Prelude.{Option, None, Some, Ok, Err}
 use Prim.Native.Nat.{ℕ, suc, ◌+◌, ◌*◌, ◌≤◌, ◌<◌}
 use native.Mathlib.Omega.{arith}
-use mathlib.Core.Path.{◌≡◌, refl, sym, ap, subst, ◌∙◌}
+use mathlib.Core.Path.{◌≡◌, refl, sym, ap, ◌∙◌}
 use mathlib.Core.Logic.{◌≢◌}
 use mathlib.Core.List.{List, [], ◌∷◌}
 use mathlib.Core.Bool.{Bool, true, false, not}
-use Rattle.std.specs.Prelude.{Option, None, Some}
 use lib.ListN.{length, get_or}
 use Rattle.std.specs.Prelude.{slice_get}
 use borrow.Author.Tests.{ne_eqb, not-true, not-false}
 use Rattle.laws.proofs.Tests.{apart}
-use Rattle.refusal.specs.Numbers.{wrong_length, not_sound, all_open}
+use Rattle.refusal.specs.declared.Reason.TheVariants.{WrongLength, NotSound, AllOpen}
+use Rattle.refusal.specs.declared.Refusal.{Refusal}
 use Rattle.refusal.specs.Answer.{refusal_for}
 use Rattle.codes.specs.Places.{upward}
 use Rattle.blocks.specs.Block.{book_length, Bytes}
@@ -19,22 +20,20 @@ use Rattle.steps.specs.Calls.{Call, opening, draft, lowest, with_drafts}
 use Rattle.steps.proofs.Order as order
 use Rattle.layout.specs.Layout.{draft_of, bytes_of, book_of}
 use Rattle.layout.specs.Tests.{is_sound}
-use Rattle.layout.specs.Rule.{paper_reply, Does}
+use Rattle.layout.specs.Rule.{Does}
 use Rattle.layout.specs.Lies.{Lies}
-use Rattle.layout.specs.declared.Reply.{Reply}
 use Rattle.layout.specs.declared.Reply.TheVariants as reply
 use Rattle.layout.proofs.Back.{sound_lies}
 use Rattle.layout.proofs.Rules.{does_step, does_refused, does_short, does_unsound}
 use Rattle.layout.proofs.Said.{drafts_length, draft_shut}
 
 -- ---- a call on bytes of a wrong length, and on bytes that are no sound book
-pub ends_short : (l : List ℕ) (c : Call) (r : Reply) → (length l ≡ book_length → ⊥) → r ≡ reply.Refused (refusal_for wrong_length 0) → Does l l c r
-ends_short l c r h e = subst (Does l l c) (sym e) (does_short l c (reply.Refused (refusal_for wrong_length 0)) h refl)
+pub ends_short : (l : List ℕ) (c : Call) (w : Refusal) → (length l ≡ book_length → ⊥) → w ≡ refusal_for WrongLength 0 → Does l l c (Err w)
+ends_short l c w h e = does_short l c (Err w) h (rw e)
 
-pub ends_unsound : (l : List ℕ) (c : Call) (r : Reply) (sound : Bool) → length l ≡ book_length → sound ≡ is_sound l → not sound ≡ true
-    → r ≡ reply.Refused (refusal_for not_sound 0) → Does l l c r
-ends_unsound l c r sound h q t e =
-    subst (Does l l c) (sym e) (does_unsound l c (reply.Refused (refusal_for not_sound 0)) h (sym q ∙ not-true sound t) refl)
+pub ends_unsound : (l : List ℕ) (c : Call) (w : Refusal) (sound : Bool) → length l ≡ book_length → sound ≡ is_sound l → not sound ≡ true
+    → w ≡ refusal_for NotSound 0 → Does l l c (Err w)
+ends_unsound l c w sound h q t e = does_unsound l c (Err w) h (sym q ∙ not-true sound t) (rw e)
 
 -- ---- the four drafts in their order
 four_drafts : (l : List ℕ) → (book_of l).drafts ≡ draft_of l 0 ∷ draft_of l 1 ∷ draft_of l 2 ∷ draft_of l 3 ∷ []
@@ -101,10 +100,10 @@ module _ (l : List ℕ) (long : length l ≡ book_length) (sound : Bool) (is-sou
   t = sym is-sound ∙ not-false sound good
 
   -- 14
-  pub open_none : (y : Bytes l) (r : Reply) → w ≡ None → r ≡ reply.Refused (refusal_for all_open 0) → Does l l opening r
+  pub open_none : (y : Bytes l) (r : Refusal) → w ≡ None → r ≡ refusal_for AllOpen 0 → Does l l opening (Err r)
   open_none y r e q =
       let none-closed : lowest 1 (book_of l).drafts ≡ None = sym is-lowest ∙ e in
-      does_refused l opening r long t 14 0 (order.open_none (book_of l) none-closed) (ap paper_reply q)
+      does_refused l opening (Err r) long t 14 0 (order.open_none (book_of l) none-closed) (rw q)
 
   -- a draft is closed
   module _ (d : ℕ) (is : w ≡ Some d) where
@@ -124,9 +123,9 @@ module _ (l : List ℕ) (long : length l ≡ book_length) (sound : Bool) (is-sou
 
     pub open_does : (y : Bytes l) (m : List ℕ)
         → ((b : Book) → Lies l b → draft_at b.drafts d ≡ closed → Lies m (with_drafts b (put b.drafts d (working [] false))))
-        → (z : List ℕ) → ((b : Book) → Lies m b → z ≡ bytes_of b) → Does l z opening (reply.Draft d)
+        → (z : List ℕ) → ((b : Book) → Lies m b → z ≡ bytes_of b) → Does l z opening (Ok (reply.Draft d))
     open_does y m opened z sealed =
         let one-closed : lowest 1 (book_of l).drafts ≡ Some d = sym is-lowest ∙ is in
         let after : Book = with_drafts (book_of l) (put (book_of l).drafts d (working [] false)) in
-        does_step l z opening (reply.Draft d) long t (draft d) after (order.open_lowest (book_of l) d one-closed) refl
+        does_step l z opening (Ok (reply.Draft d)) long t (draft d) after (order.open_lowest (book_of l) d one-closed) refl
         (sealed after (opened (book_of l) (sound_lies l y t) open_shut))

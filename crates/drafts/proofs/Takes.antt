@@ -1,17 +1,16 @@
 -- How many segments a draft has taken, and the ways out of `take`. Assumes nothing.
+use Rattle.std.specs.Prelude.{Option, None, Some, is_some, Result, Ok, Err}
 use Prim.Native.Nat.{ℕ, zero, suc, ◌+◌, ◌*◌, ◌≤◌, ◌<◌}
 use native.Mathlib.Omega.{arith}
-use mathlib.Core.Path.{◌≡◌, refl, sym, ap, ap₂, subst, ◌∙◌}
+use mathlib.Core.Path.{◌≡◌, refl, sym, ap, ap₂, ◌∙◌}
 use mathlib.Core.List.{List, [], ◌∷◌, ◌++◌}
 use mathlib.Core.Bool.{Bool, true, false}
-use Rattle.std.specs.Prelude.{Option, None, Some}
 use lib.ListN.{length, get_or}
 use borrow.Author.Tests.{le-ltb, lt-ltb}
 use Rattle.laws.proofs.Tests.{by_order, impossible, apart}
-use Rattle.refusal.specs.Numbers.{taken_already, two_taken}
-use Rattle.refusal.specs.Answer.{no, refusal_for, paper_verdict}
-use Rattle.refusal.specs.declared.Verdict.{Verdict}
-use Rattle.refusal.specs.declared.Verdict.TheVariants.{Accepted}
+use Rattle.refusal.specs.declared.Reason.TheVariants.{TakenAlready, TwoTaken}
+use Rattle.refusal.specs.declared.Refusal.{Refusal}
+use Rattle.refusal.specs.Answer.{no, refusal_for, answer_by, answer_of}
 use Rattle.codes.specs.Block.{Content}
 use Rattle.blocks.specs.Block.{book_length, Bytes}
 use Rattle.steps.specs.Book.{Copy, Draft, working, Book, at, put, draft_at}
@@ -20,7 +19,7 @@ use Rattle.steps.proofs.Order.{on_again, on_full, on_taken}
 use Rattle.steps.proofs.Agree.{copy_none}
 use Rattle.layout.specs.Layout.{copies_of, copies_at, bytes_of, book_of}
 use Rattle.layout.specs.Tests.{is_sound}
-use Rattle.layout.specs.Rule.{paper_reply, Does}
+use Rattle.layout.specs.Rule.{value_said, Does}
 use Rattle.layout.specs.Lies.{Lies}
 use Rattle.layout.specs.declared.Reply.{Reply}
 use Rattle.layout.specs.declared.Reply.TheVariants as reply
@@ -77,9 +76,9 @@ segment_to l (suc k) e x =
     (λ h. let g = (sound_parts l e).eight in omega arith)
     (λ h. apart (let q = sym (ap exists (segment_past l k h)) ∙ x in cc))
 
-module _ (l : List ℕ) (d s : ℕ) (v : Verdict) (is : v ≡ Accepted) (says : paper_verdict v ≡ admission l d true s) where
+module _ (l : List ℕ) (d s : ℕ) (v : Result Unit Refusal) (is : v ≡ Ok tt) (says : answer_of v ≡ admission l d true s) where
   pub take_admitted : Admitted l d s
-  take_admitted = admitted_at l d s true (sym (ap paper_verdict is) ∙ says)
+  take_admitted = admitted_at l d s true (sym (ap answer_of is) ∙ says)
 
   pub take_long : length l ≡ book_length
   take_long = take_admitted.long
@@ -101,25 +100,33 @@ module _ (l : List ℕ) (d s : ℕ) (v : Verdict) (is : v ≡ Accepted) (says : 
 
 -- ---- what a take does, by the draft's copies
 module _ (l : List ℕ) (base : Base l) (long : length l ≡ book_length) (d s : ℕ) (o : Opened (book_of l).drafts d) (c : Content) (there : at (book_of l).segments s ≡ Some c) where
-  stays : (n p : ℕ) (r : Reply) → book_rule (book_of l) (on d s taking) ≡ no n p → paper_reply r ≡ no n p → Does l l (on d s taking) r
+  stays : (n p : ℕ) (r : Result Reply Refusal) → book_rule (book_of l) (on d s taking) ≡ no n p → answer_by value_said r ≡ no n p → Does l l (on d s taking) r
   stays n p r e q = does_refused l (on d s taking) r long base.sound n p e q
 
-  copy_there : has s o.ks ≡ true → Does l l (on d s taking) (reply.Refused (refusal_for taken_already 0))
-  copy_there e = stays 17 0 (reply.Refused (refusal_for taken_already 0)) (on_again (book_of l) d o.ks o.stale o.there s c there e) refl
+  copy_there : has s o.ks ≡ true → Does l l (on d s taking) (Err (refusal_for TakenAlready 0))
+  copy_there e = stays 17 0 (Err (refusal_for TakenAlready 0)) (on_again (book_of l) d o.ks o.stale o.there s c there e) refl
 
-  two_there : has s o.ks ≡ false → 2 ≤ length o.ks → Does l l (on d s taking) (reply.Refused (refusal_for two_taken 0))
+  two_there : has s o.ks ≡ false → 2 ≤ length o.ks → Does l l (on d s taking) (Err (refusal_for TwoTaken 0))
   two_there e h =
-      stays 18 0 (reply.Refused (refusal_for two_taken 0)) (on_full (book_of l) d o.ks o.stale o.there s c there e (le-ltb (length o.ks) 2 h)) refl
+      stays 18 0 (Err (refusal_for TwoTaken 0)) (on_full (book_of l) d o.ks o.stale o.there s c there e (le-ltb (length o.ks) 2 h)) refl
 
   copied : has s o.ks ≡ false → length o.ks < 2 → (z : List ℕ)
       → z ≡ bytes_of (with_drafts (book_of l) (put (book_of l).drafts d (working (o.ks ++ (record { segment = s; held = c } ∷ [])) o.stale)))
-      → Does l z (on d s taking) reply.Done
+      → Does l z (on d s taking) (Ok reply.Done)
   copied e h z q =
       let new : List Copy = o.ks ++ (record { segment = s; held = c } ∷ []) in
-      does_step l z (on d s taking) reply.Done long base.sound done (with_drafts (book_of l) (put (book_of l).drafts d (working new o.stale)))
+      does_step l z (on d s taking) (Ok reply.Done) long base.sound done (with_drafts (book_of l) (put (book_of l).drafts d (working new o.stale)))
       (on_taken (book_of l) d o.ks o.stale o.there s c there e (lt-ltb (length o.ks) 2 h)) refl q
 
 -- ---- the ways out
+some_there : (o : Option ℕ) → is_some o ≡ true → (k : ℕ) × (o ≡ Some k)
+some_there None e = apart cc
+some_there (Some k) e = (k, refl)
+
+none_there : (o : Option ℕ) → is_some o ≡ false → o ≡ None
+none_there None e = refl
+none_there (Some k) e = apart cc
+
 -- the copy that was sought
 block_some : (d k : ℕ) (i : Option ℕ) → block_in d i ≡ Some k → (n : ℕ) × (i ≡ Some n)
 block_some d k None e = apart cc
@@ -129,7 +136,7 @@ block_none : (d : ℕ) (i : Option ℕ) → block_in d i ≡ None → i ≡ None
 block_none d None e = refl
 block_none d (Some n) e = apart cc
 
-module _ (l : List ℕ) (y : Bytes l) (d s : ℕ) (v : Verdict) (is : v ≡ Accepted) (says : paper_verdict v ≡ admission l d true s)
+module _ (l : List ℕ) (y : Bytes l) (d s : ℕ) (v : Result Unit Refusal) (is : v ≡ Ok tt) (says : answer_of v ≡ admission l d true s)
     (f : Option ℕ) (is_at : f ≡ copy_block l d s) where
   a : Admitted l d s
   a = take_admitted l d s v is says
@@ -148,13 +155,17 @@ module _ (l : List ℕ) (y : Bytes l) (d s : ℕ) (v : Verdict) (is : v ≡ Acce
   sought = is_at ∙ ap (λ (x : Draft). block_in d (index_of s (copies_of x))) o.there
 
   -- 17
-  pub take_again : (k : ℕ) (r : Reply) → f ≡ Some k → r ≡ reply.Refused (refusal_for taken_already 0) → Does l l (on d s taking) r
-  take_again k r q e =
-      let b = block_some d k (index_of s o.ks) (sym sought ∙ q) in
+  pub take_again : (t : Bool) (w : Refusal) → t ≡ is_some f → t ≡ true → w ≡ refusal_for TakenAlready 0 → Does l l (on d s taking) (Err w)
+  take_again t w et y e =
+      let k = some_there f (sym et ∙ y) in
+      let b = block_some d k.0 (index_of s o.ks) (sym sought ∙ k.1) in
       let i = index_some s o.ks b.0 b.1 in
-      subst (Does l l (on d s taking)) (sym e) (copy_there l base a.long d s o c.0 c.1 i.named)
+      rw e (copy_there l base a.long d s o c.0 c.1 i.named)
 
-  module _ (q : f ≡ None) (n : ℕ) (is-n : n ≡ length (copies_of (draft_at (book_of l).drafts d))) where
+  module _ (t : Bool) (et : t ≡ is_some f) (z : t ≡ false) (n : ℕ) (is-n : n ≡ length (copies_of (draft_at (book_of l).drafts d))) where
+    q : f ≡ None
+    q = none_there f (sym et ∙ z)
+
     absent : has s o.ks ≡ false
     absent = copy_none s o.ks (index_none s o.ks (block_none d (index_of s o.ks) (sym sought ∙ q)))
 
@@ -162,14 +173,13 @@ module _ (l : List ℕ) (y : Bytes l) (d s : ℕ) (v : Verdict) (is : v ≡ Acce
     count = is-n ∙ ap (λ (x : Draft). length (copies_of x)) o.there
 
     -- 18
-    pub take_full : (r : Reply) → 2 ≤ n → r ≡ reply.Refused (refusal_for two_taken 0) → Does l l (on d s taking) r
-    take_full r h e =
-        subst (Does l l (on d s taking)) (sym e) (two_there l base a.long d s o c.0 c.1 absent (omega (arith, count)))
+    pub take_full : (w : Refusal) → 2 ≤ n → w ≡ refusal_for TwoTaken 0 → Does l l (on d s taking) (Err w)
+    take_full w h e = rw e (two_there l base a.long d s o c.0 c.1 absent (omega (arith, count)))
 
     pub take_does : n < 2 → (m : List ℕ)
         → ((b : Book) → Lies l b → (ks : List Copy) (stale : Bool) (c : Content) → draft_at b.drafts d ≡ working ks stale → length ks ≡ n
         → at b.segments s ≡ Some c → Lies m (with_drafts b (put b.drafts d (working (ks ++ (record { segment = s; held = c } ∷ [])) stale))))
-        → (z : List ℕ) → ((b : Book) → Lies m b → z ≡ bytes_of b) → Does l z (on d s taking) reply.Done
+        → (z : List ℕ) → ((b : Book) → Lies m b → z ≡ bytes_of b) → Does l z (on d s taking) (Ok reply.Done)
     take_does h m took z sealed =
         let after : Book = with_drafts (book_of l) (put (book_of l).drafts d (working (o.ks ++ (record { segment = s; held = c.0 } ∷ [])) o.stale)) in
         copied l base a.long d s o c.0 c.1 absent (omega (arith, count)) z

@@ -3,16 +3,17 @@
 #![tactic(auto)]
 
 ghost use Rattle.std.specs.Prelude.{◌≡◌, true, ◌≤◌, length};
+ghost use Rattle.refusal.specs.Answer.{answer_by};
 ghost use Rattle.blocks.specs.Block.{book_length};
 ghost use Rattle.steps.specs.Book.{draft_at};
 ghost use Rattle.steps.specs.Calls.{on, editing, read_purge, read_count, read_place, taking, opening, lowest};
 ghost use Rattle.layout.specs.Layout.{book_of, copies_of};
-ghost use Rattle.layout.specs.Rule.{on_bytes, paper_reply, Does};
+ghost use Rattle.layout.specs.Rule.{on_bytes, value_said, Does};
 ghost use Rattle.layout.specs.Tests.{is_sound};
 ghost use Rattle.steps.specs.Calls as calls;
 
 use layout::Reply;
-use refusal::Verdict;
+use refusal::{Reason, Refusal};
 
 // The lowest closed draft.
 fn lowest_closed(book: &[u8]) -> Option<usize>
@@ -39,44 +40,39 @@ fn lowest_closed(book: &[u8]) -> Option<usize>
 }
 
 // Opens the lowest closed draft, and answers its number.
-pub fn open(book: &mut [u8]) -> Reply
+pub fn open(book: &mut [u8]) -> Result<Reply, Refusal>
     ensures { Does book.old book.new opening result }
 {
     if book.len() != 25088 {
-        return layout::refused(refusal::WRONG_LENGTH);
+        return Err(Reason::WrongLength.into());
     }
-    let sound = layout::is_sound(book);
-    if !sound {
-        return layout::refused(refusal::NOT_SOUND);
+    if !layout::is_sound(book) {
+        return Err(Reason::NotSound.into());
     }
-    let Some(d) = lowest_closed(book) else {
-        return layout::refused(refusal::ALL_OPEN);
-    };
+    let d = lowest_closed(book).ok_or(Reason::AllOpen)?;
     let book = blocks::as_book_mut(book);
     moves::open_draft(book, d);
     moves::seal_index(book);
-    Reply::Draft(d)
+    Ok(Reply::Draft(d))
 }
 
 // Closes an open draft: what it has taken is lost.
-pub fn drop(book: &mut [u8], d: usize) -> Reply
+pub fn drop(book: &mut [u8], d: usize) -> Result<Reply, Refusal>
     ensures { Does book.old book.new (calls.drop d) result }
 {
     if book.len() != 25088 {
-        return layout::refused(refusal::WRONG_LENGTH);
+        return Err(Reason::WrongLength.into());
     }
-    let sound = layout::is_sound(book);
-    if !sound {
-        return layout::refused(refusal::NOT_SOUND);
+    if !layout::is_sound(book) {
+        return Err(Reason::NotSound.into());
     }
-    let opened = copies::is_open(book, d);
-    if !opened {
-        return layout::refused(refusal::NO_DRAFT);
+    if !copies::is_open(book, d) {
+        return Err(Reason::NoDraft.into());
     }
     let book = blocks::as_book_mut(book);
     moves::close_draft(book, d);
     moves::seal_index(book);
-    Reply::Done
+    Ok(Reply::Done)
 }
 
 // How many segments a draft has taken.
@@ -97,70 +93,52 @@ fn count_taken(book: &[u8], d: usize) -> usize
 }
 
 // Copies a segment into an open draft that has taken at most one.
-pub fn take(book: &mut [u8], d: usize, s: usize) -> Reply
+pub fn take(book: &mut [u8], d: usize, s: usize) -> Result<Reply, Refusal>
     ensures { Does book.old book.new (on d s taking) result }
 {
-    let verdict = copies::admit(book, d, true, s);
-    if let Verdict::Refused(r) = verdict {
-        return Reply::Refused(r);
+    copies::admit(book, d, true, s)?;
+    if copies::find_copy(book, d, s).is_some() {
+        return Err(Reason::TakenAlready.into());
     }
-    let None = copies::find_copy(book, d, s) else {
-        return layout::refused(refusal::TAKEN_ALREADY);
-    };
     let n = count_taken(book, d);
     if 2 <= n {
-        return layout::refused(refusal::TWO_TAKEN);
+        return Err(Reason::TwoTaken.into());
     }
     let book = blocks::as_book_mut(book);
     moves::take_copy(book, d, n, s);
     moves::seal_index(book);
-    Reply::Done
+    Ok(Reply::Done)
 }
 
 // The purge minute of a draft's copy.
-pub fn read_purge(book: &[u8], d: usize, s: usize) -> Reply
-    ensures { paper_reply result ≡ (on_bytes book.now (on d s (editing read_purge))).0 }
+pub fn read_purge(book: &[u8], d: usize, s: usize) -> Result<Reply, Refusal>
+    ensures { answer_by value_said result ≡ (on_bytes book.now (on d s (editing read_purge))).0 }
 {
-    let verdict = copies::admit(book, d, true, s);
-    if let Verdict::Refused(r) = verdict {
-        return Reply::Refused(r);
-    }
-    let Some(k) = copies::find_copy(book, d, s) else {
-        return layout::refused(refusal::NOT_TAKEN);
-    };
+    copies::admit(book, d, true, s)?;
+    let k = copies::find_copy(book, d, s).ok_or(Reason::NotTaken)?;
     let h = blocks::load(blocks::as_book(book), k);
-    Reply::Number(codes::wide(h.purge))
+    Ok(Reply::Number(codes::wide(h.purge)))
 }
 
 // The count of places of a draft's copy.
-pub fn read_count(book: &[u8], d: usize, s: usize) -> Reply
-    ensures { paper_reply result ≡ (on_bytes book.now (on d s (editing read_count))).0 }
+pub fn read_count(book: &[u8], d: usize, s: usize) -> Result<Reply, Refusal>
+    ensures { answer_by value_said result ≡ (on_bytes book.now (on d s (editing read_count))).0 }
 {
-    let verdict = copies::admit(book, d, true, s);
-    if let Verdict::Refused(r) = verdict {
-        return Reply::Refused(r);
-    }
-    let Some(k) = copies::find_copy(book, d, s) else {
-        return layout::refused(refusal::NOT_TAKEN);
-    };
+    copies::admit(book, d, true, s)?;
+    let k = copies::find_copy(book, d, s).ok_or(Reason::NotTaken)?;
     let h = blocks::load(blocks::as_book(book), k);
-    Reply::Number(h.count)
+    Ok(Reply::Number(h.count))
 }
 
 // The place of a draft's copy at an index from 0.
-pub fn read_place(book: &[u8], d: usize, s: usize, i: usize) -> Reply
-    ensures { paper_reply result ≡ (on_bytes book.now (on d s (editing (read_place i)))).0 }
+pub fn read_place(book: &[u8], d: usize, s: usize, i: usize) -> Result<Reply, Refusal>
+    ensures { answer_by value_said result ≡ (on_bytes book.now (on d s (editing (read_place i)))).0 }
 {
-    let verdict = copies::admit(book, d, true, s);
-    if let Verdict::Refused(r) = verdict {
-        return Reply::Refused(r);
-    }
-    let Some(k) = copies::find_copy(book, d, s) else {
-        return layout::refused(refusal::NOT_TAKEN);
-    };
+    copies::admit(book, d, true, s)?;
+    let k = copies::find_copy(book, d, s).ok_or(Reason::NotTaken)?;
     let h = blocks::load(blocks::as_book(book), k);
     if h.count <= i {
-        return layout::refused(refusal::OUT_OF_RANGE);
+        return Err(Reason::OutOfRange.into());
     }
-    Reply::Number(codes::wide(h.places[i]))
+    Ok(Reply::Number(codes::wide(h.places[i])))
 }

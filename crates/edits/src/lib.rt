@@ -15,7 +15,7 @@ ghost use Rattle.layout.specs.Rule.{Does};
 use blocks::Held;
 use calendar::Stamp;
 use layout::Reply;
-use refusal::Verdict;
+use refusal::{Reason, Refusal};
 
 // Whether p is one of the places.
 fn has_place(h: &Held, p: u32) -> bool
@@ -81,76 +81,56 @@ fn store_held(book: &mut [u8], k: usize, h: Held)
 }
 
 // Another purge minute of a draft's copy: the one that DDHHMM gives.
-pub fn set_purge(book: &mut [u8], d: usize, s: usize, time: Stamp) -> Reply
+pub fn set_purge(book: &mut [u8], d: usize, s: usize, time: Stamp) -> Result<Reply, Refusal>
     ensures { Does book.old book.new (on d s (editing (set_purge time))) result }
 {
-    let in_range = calendar::is_time(time);
-    let verdict = copies::admit(book, d, in_range, s);
-    if let Verdict::Refused(r) = verdict {
-        return Reply::Refused(r);
-    }
-    let Some(k) = copies::find_copy(book, d, s) else {
-        return layout::refused(refusal::NOT_TAKEN);
-    };
+    copies::admit(book, d, calendar::is_time(time), s)?;
+    let k = copies::find_copy(book, d, s).ok_or(Reason::NotTaken)?;
     let h = blocks::load(blocks::as_book(book), k);
     let issue = codes::wide(blocks::number_at(book, 0));
-    let Some(minute) = calendar::purge_of(issue, time) else {
-        return layout::refused(refusal::WRONG_TIME);
-    };
+    let minute = calendar::purge_of(issue, time).ok_or(Reason::WrongTime)?;
     let new = Held {
         purge: minute as u32,
         ..h
     };
     store_held(book, k, new);
-    Reply::Number(minute)
+    Ok(Reply::Number(minute))
 }
 
 // A place added to a draft's copy.
-pub fn add(book: &mut [u8], d: usize, s: usize, p: usize) -> Reply
+pub fn add(book: &mut [u8], d: usize, s: usize, p: usize) -> Result<Reply, Refusal>
     ensures { Does book.old book.new (on d s (editing (add p))) result }
 {
-    let in_range = p < 1352000;
-    let verdict = copies::admit(book, d, in_range, s);
-    if let Verdict::Refused(r) = verdict {
-        return Reply::Refused(r);
-    }
-    let Some(k) = copies::find_copy(book, d, s) else {
-        return layout::refused(refusal::NOT_TAKEN);
-    };
+    copies::admit(book, d, p < 1352000, s)?;
+    let k = copies::find_copy(book, d, s).ok_or(Reason::NotTaken)?;
     let h = blocks::load(blocks::as_book(book), k);
     let place = p as u32;
     if has_place(&h, place) {
-        return Reply::Was(true);
+        return Ok(Reply::Was(true));
     }
     if 120 <= h.count {
-        return layout::refused(refusal::SEGMENT_FULL);
+        return Err(Reason::SegmentFull.into());
     }
     let new = with_place(h, place);
     store_held(book, k, new);
-    Reply::Was(false)
+    Ok(Reply::Was(false))
 }
 
 // A place removed from a draft's copy.
-pub fn remove(book: &mut [u8], d: usize, s: usize, p: usize) -> Reply
+pub fn remove(book: &mut [u8], d: usize, s: usize, p: usize) -> Result<Reply, Refusal>
     ensures { Does book.old book.new (on d s (editing (remove p))) result }
 {
-    let in_range = p < 1352000;
-    let verdict = copies::admit(book, d, in_range, s);
-    if let Verdict::Refused(r) = verdict {
-        return Reply::Refused(r);
-    }
-    let Some(k) = copies::find_copy(book, d, s) else {
-        return layout::refused(refusal::NOT_TAKEN);
-    };
+    copies::admit(book, d, p < 1352000, s)?;
+    let k = copies::find_copy(book, d, s).ok_or(Reason::NotTaken)?;
     let h = blocks::load(blocks::as_book(book), k);
     let place = p as u32;
     if !has_place(&h, place) {
-        return Reply::Was(false);
+        return Ok(Reply::Was(false));
     }
     if h.count == 1 {
-        return layout::refused(refusal::ONLY_PLACE);
+        return Err(Reason::OnlyPlace.into());
     }
     let new = without_place(h, place);
     store_held(book, k, new);
-    Reply::Was(true)
+    Ok(Reply::Was(true))
 }

@@ -5,7 +5,7 @@ use native.Mathlib.Numerals.{add-one}
 use native.Mathlib.Omega.{arith}
 use mathlib.Core.Path.{◌≡◌, refl, sym, ap, ap₂, ◌∙◌}
 use mathlib.Core.Bool.{true}
-use Rattle.std.specs.Prelude.{Option, None, Some}
+use Rattle.std.specs.Prelude.{Option, None, Some, Result, Ok, Err}
 use mathlib.Core.List.{List, [], ◌∷◌, ◌++◌, map, append_assoc, append-nil, map-append}
 use lib.ListN.{length, take, drop, get_or, set, length-append, length-drop, length-map, length-set, drop_of_length-le, get_or-map}
 use lib.Seq.{sets, sets-eq, get_or-take, take_all, take-suc, take-suc-set, length-sets, length-take-le, take-append_seam, drop-drop}
@@ -16,8 +16,8 @@ use borrow.Rule.Slice.PartMut.{put_mid}
 use Rattle.laws.proofs.Lookups.{get_some, some_same}
 use Rattle.laws.proofs.Stores.{sets_front, sets_then}
 use Rattle.laws.proofs.Tests.{by, apart}
-use Rattle.refusal.specs.Numbers.{out_of_range}
-use Rattle.refusal.specs.Answer.{Answer, ok, refused, and_then, paper_refusal}
+use Rattle.refusal.specs.declared.Reason.TheVariants.{OutOfRange}
+use Rattle.refusal.specs.Answer.{Answer, ok, refused, and_then, answer_of}
 use Rattle.refusal.specs.declared.Refusal.{Refusal}
 use Rattle.lines.specs.declared.End.{End}
 use Rattle.lines.specs.declared.End.TheVariants.{CrCrLf}
@@ -27,10 +27,9 @@ use Rattle.codes.specs.Block.{Content}
 use Rattle.codes.specs.Places.{capacity, is_set}
 use Rattle.codes.specs.Written as form
 use Rattle.codes.specs.Written.{in_order}
-use Rattle.writing.specs.Write.{dated_block, written_block, fitting, write_rule, length_of, output_of, paper_written, WritesEnded}
+use Rattle.std.specs.Result.{result_unwrap_or}
+use Rattle.writing.specs.Write.{dated_block, written_block, fitting, write_rule, length_of, output_of, WritesEnded}
 use Rattle.writing.specs.Pen.{written_block_most}
-use Rattle.writing.specs.declared.Written.{Written}
-use Rattle.writing.specs.declared.Written.TheVariants as written
 use Rattle.writing.proofs.Bound.{block_most_lem}
 use Rattle.bulletin.proofs.Saying.{by_then, ok_one}
 use Rattle.blocks.specs.Block.{block_of}
@@ -55,7 +54,7 @@ pub record SomeBlock (end : End) (ps : List ℕ) (minute : ℕ) : Type 0 where
 pub some_block : (e f : End) (ps : List ℕ) (minute : ℕ) (block : List ℕ) → written_block e ps minute ≡ ok block → SomeBlock f ps minute
 unfolding written_block
 some_block e f ps minute block h =
-    by (is_set ps) (λ q. dated q (date_of minute) refl (rw q at h)) (λ q. let z : refused out_of_range 0 ≡ ok block = rw q at h in apart cc)
+    by (is_set ps) (λ q. dated q (date_of minute) refl (rw q at h)) (λ q. let z : refused OutOfRange 0 ≡ ok block = rw q at h in apart cc)
   where
     dated : is_set ps ≡ true → (d : Option Date) → date_of minute ≡ d → dated_block e ps d ≡ ok block → SomeBlock f ps minute
     dated q None t z = apart cc
@@ -94,10 +93,10 @@ module _ (l : List ℕ) (b : SoundBook l) (i : ℕ) (low : i < get_or l 4 0) whe
         ∙ rule_block end (length before) content made.block made.given
         ∙ fits
 
-    module _ (x : Written) (w : WritesEnded end before after (take (q.count - 0) q.places) q.purge x) where
-      pub form_written : (r : ℕ) → x ≡ written.Length r → Formed end l i before after r
+    module _ (x : Result ℕ Refusal) (w : WritesEnded end before after (take (q.count - 0) q.places) q.purge x) where
+      form_written : (r : ℕ) → x ≡ Ok r → Formed end l i before after r
       form_written r k =
-          let s : r ≡ length made.block = ok_one r (length made.block) (ap paper_written (sym k) ∙ w.answer ∙ ap length_of rule) in
+          let s : r ≡ length made.block = ok_one r (length made.block) (ap answer_of (sym k) ∙ w.answer ∙ ap length_of rule) in
           record {
             form = made.block;
             given = made.given;
@@ -107,8 +106,15 @@ module _ (l : List ℕ) (b : SoundBook l) (i : ℕ) (low : i < get_or l 4 0) whe
           }
 
       -- the writer does not refuse what a sound book holds
-      pub form_refused : (r : Refusal) → x ≡ written.Refused r → Formed end l i before after 0
-      form_refused r k = let f : paper_refusal r ≡ ok (length made.block) = ap paper_written (sym k) ∙ w.answer ∙ ap length_of rule in apart cc
+      form_refused : (r : Refusal) → x ≡ Err r → Formed end l i before after 0
+      form_refused r k = let f : refused r.reason r.place ≡ ok (length made.block) = ap answer_of (sym k) ∙ w.answer ∙ ap length_of rule in apart cc
+
+      pub form_length : (r : ℕ) → r ≡ result_unwrap_or x 0 → Formed end l i before after r
+      form_length r e = rw e (go x refl)
+        where
+          go : (y : Result ℕ Refusal) → x ≡ y → Formed end l i before after (result_unwrap_or y 0)
+          go (Ok n) q = form_written n q
+          go (Err f) q = form_refused f q
 
 -- ---- forms, one behind the other
 pub in_order_more : (bs : List (List ℕ)) (b : List ℕ) → in_order (bs ++ (b ∷ [])) ≡ in_order bs ++ b

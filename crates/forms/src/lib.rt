@@ -10,7 +10,6 @@ ghost use Rattle.forms.specs.Forms.{SoundBook, Formed, RoomFor, ends_of, Laid, k
 
 use lines::End;
 use segments::Segments;
-use writing::Written;
 
 // The lengths of the written forms of a book's segments, and their sum.
 #[derive(Clone, Copy)]
@@ -26,14 +25,11 @@ fn write_form(book: &[u8], i: usize, end: End, out: &mut [u8]) -> usize
     requires written_block_most_in_bounds { written_block_most ≤ length out.old }
     ensures { Formed end book.now i out.old out.new result }
 {
-    let held = blocks::load(book, i + 1);
+    let held = blocks::load(blocks::as_book(book), i + 1);
     let places = held.places;
     let count = held.count;
     let minute = held.purge as usize;
-    match writing::write_ended(out, &places[0..count], minute, end) {
-        Written::Length(n) => n,
-        Written::Refused(_) => 0,
-    }
+    writing::write_ended(out, &places[0..count], minute, end).unwrap_or(0)
 }
 
 // Writes the forms of all segments of a sound book, one behind the other. The lines of each end as the first line of the segment in the text, of which there are as many.

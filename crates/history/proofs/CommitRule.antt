@@ -1,4 +1,5 @@
 -- The ways out of a commit. Assumes nothing.
+use Rattle.std.specs.Prelude.{Ok, Err}
 use mathlib.Core.Path.{◌≡◌, refl, sym, ap, ◌∙◌, subst}
 use mathlib.Core.Logic.{◌≢◌}
 use mathlib.Core.Bool.{Bool, true, false}
@@ -12,7 +13,9 @@ use Rattle.laws.proofs.Tests.{impossible}
 use Rattle.laws.proofs.Lookups.{get_none}
 use Rattle.blocks.specs.Block.{book_length, Bytes}
 use Rattle.steps.specs.Book.{Copy, Draft, closed, working, Book, or_closed, draft_at}
-use Rattle.refusal.specs.Answer.{ok}
+use Rattle.refusal.specs.declared.Refusal.{Refusal}
+use Rattle.refusal.specs.declared.Reason.TheVariants.{WrongLength, NotSound, NoDraft, StaleDraft}
+use Rattle.refusal.specs.Answer.{ok, refusal_for}
 use Rattle.steps.specs.Calls.{commit, changed, changes, segments_named, committed}
 use Rattle.steps.proofs.Order as order
 use Rattle.steps.proofs.Order.{commit_closed, commit_fresh}
@@ -20,9 +23,8 @@ use Rattle.layout.specs.Layout.{copies_at, book_of}
 use Rattle.layout.specs.Sound.{FineTaken, FineDraft, closed_fine, working_fine, Sound}
 use Rattle.layout.specs.Tests.{is_sound}
 use Rattle.layout.specs.Lies.{Lies}
-use Rattle.layout.specs.Rule.{paper_reply, Does}
+use Rattle.layout.specs.Rule.{Does}
 use Rattle.layout.specs.declared.Changed.{Changed}
-use Rattle.layout.specs.declared.Reply.{Reply}
 use Rattle.layout.specs.declared.Reply.TheVariants as reply
 use Rattle.layout.proofs.Says.{DraftSays, shut, bare, one, two}
 use Rattle.layout.proofs.Parts.{sound_parts, draft_cases}
@@ -34,10 +36,6 @@ use Rattle.keeping.proofs.Parts.{draft_is}
 use Rattle.history.specs.declared.Found.{Found}
 use Rattle.history.specs.Changing.{AllPlaced, changes_in, Finds, Leaves}
 use Rattle.history.proofs.CommitFound.{finds_copies, changes_placed}
-
--- a refusal as the code gives it
-abbrev pub Refuses : Reply → ℕ → Type 0
-Refuses r number = r ≡ reply.Refused (record { number = number; place = 0 })
 
 -- ---- the draft that bytes tell
 draft_0 : (ds : List Draft) (d : ℕ) → d < 1 → draft_at ds d ≡ closed
@@ -114,33 +112,33 @@ draft_working l e d h o t f =
     ∙ ap (working (copies_in l d)) (ap (λ (j : ℕ). eqb (get_or l j 0) 1) q3 ∙ f)
 
 -- ---- refusals
-pub commit_short : (l : List ℕ) (d : ℕ) (r : Reply) → length l ≢ book_length → Refuses r 1 → Does l l (commit d) r
-commit_short l d r h p = does_short l (commit d) r h (ap paper_reply p)
+pub commit_short : (l : List ℕ) (d : ℕ) (r : Refusal) → length l ≢ book_length → r ≡ refusal_for WrongLength 0 → Does l l (commit d) (Err r)
+commit_short l d r h p = does_short l (commit d) (Err r) h (rw p)
 
-pub commit_unsound : (l : List ℕ) (d : ℕ) (r : Reply) → length l ≡ book_length → is_sound l ≡ false → Refuses r 12 → Does l l (commit d) r
-commit_unsound l d r h e p = does_unsound l (commit d) r h e (ap paper_reply p)
+pub commit_unsound : (l : List ℕ) (d : ℕ) (r : Refusal) → length l ≡ book_length → is_sound l ≡ false → r ≡ refusal_for NotSound 0 → Does l l (commit d) (Err r)
+commit_unsound l d r h e p = does_unsound l (commit d) (Err r) h e (rw p)
 
-module _ (l : List ℕ) (d : ℕ) (r : Reply) (bytes : Bytes l) (long : length l ≡ book_length) (sound : is_sound l ≡ true) where
-  pub commit_low : d < 1 → Refuses r 13 → Does l l (commit d) r
-  commit_low h p = does_refused l (commit d) r long sound 13 0 (commit_closed (book_of l) d (draft_0 (book_of l).drafts d h)) (ap paper_reply p)
+module _ (l : List ℕ) (d : ℕ) (r : Refusal) (bytes : Bytes l) (long : length l ≡ book_length) (sound : is_sound l ≡ true) where
+  pub commit_low : d < 1 → r ≡ refusal_for NoDraft 0 → Does l l (commit d) (Err r)
+  commit_low h p = does_refused l (commit d) (Err r) long sound 13 0 (commit_closed (book_of l) d (draft_0 (book_of l).drafts d h)) (rw p)
 
-  pub commit_high : 4 < d → Refuses r 13 → Does l l (commit d) r
+  pub commit_high : 4 < d → r ≡ refusal_for NoDraft 0 → Does l l (commit d) (Err r)
   commit_high h p =
-      does_refused l (commit d) r long sound 13 0 (commit_closed (book_of l) d (draft_5 (book_of l).drafts d (drafts_length l) h)) (ap paper_reply p)
+      does_refused l (commit d) (Err r) long sound 13 0 (commit_closed (book_of l) d (draft_5 (book_of l).drafts d (drafts_length l) h)) (rw p)
 
-  pub commit_shut : 1 ≤ d → d ≤ 4 → (o : ℕ) → o ≡ get_or l (4 + 4 * d) 0 → o ≡ 0 → Refuses r 13 → Does l l (commit d) r
+  pub commit_shut : 1 ≤ d → d ≤ 4 → (o : ℕ) → o ≡ get_or l (4 + 4 * d) 0 → o ≡ 0 → r ≡ refusal_for NoDraft 0 → Does l l (commit d) (Err r)
   commit_shut h g o e f p =
-      does_refused l (commit d) r long sound 13 0 (commit_closed (book_of l) d (draft_closed l d h g (sym e ∙ f))) (ap paper_reply p)
+      does_refused l (commit d) (Err r) long sound 13 0 (commit_closed (book_of l) d (draft_closed l d h g (sym e ∙ f))) (rw p)
 
 -- a stale draft
-pub commit_stale : (l : List ℕ) (d : ℕ) (r : Reply) → Bytes l → length l ≡ book_length → is_sound l ≡ true → 1 ≤ d → d ≤ 4
-    → (o s : ℕ) → o ≡ get_or l (4 + 4 * d) 0 → o ≢ 0 → s ≡ get_or l (7 + 4 * d) 0 → s ≡ 1 → Refuses r 21 → Does l l (commit d) r
+pub commit_stale : (l : List ℕ) (d : ℕ) (r : Refusal) → Bytes l → length l ≡ book_length → is_sound l ≡ true → 1 ≤ d → d ≤ 4
+    → (o s : ℕ) → o ≡ get_or l (4 + 4 * d) 0 → o ≢ 0 → s ≡ get_or l (7 + 4 * d) 0 → s ≡ 1 → r ≡ refusal_for StaleDraft 0 → Does l l (commit d) (Err r)
 commit_stale l zero r bytes long sound h g o s e f a b p = impossible (omega arith)
 commit_stale l (suc d) r bytes long sound h g o s e f a b p =
-    does_refused l (commit (suc d)) r long sound 21 0
+    does_refused l (commit (suc d)) (Err r) long sound 21 0
     (order.commit_stale (book_of l) (suc d) (copies_in l d)
     (draft_working l sound d (omega arith) (λ z. f (e ∙ z)) true (eq-eqb (get_or l (7 + 4 * suc d) 0) 1 (sym a ∙ b))))
-    (ap paper_reply p)
+    (rw p)
 
 -- ---- the commit
 taken_fine : {issue n : ℕ} {x : Draft} (ks : List Copy) → FineDraft issue n x → x ≡ working ks false → FineTaken issue n ks false
@@ -154,7 +152,7 @@ abbrev pub CommitsFound : List ℕ → List ℕ → ℕ → Found → Changed �
 CommitsFound l m d f c = (b : Book) → Lies l b → Sound b → (cs : List Copy) → Finds b f cs → Leaves c m b d cs
 
 fresh_done : (l m : List ℕ) (d : ℕ) (f : Found) (c : Changed) → Bytes l → length l ≡ book_length → is_sound l ≡ true → d < 4 → f ≡ changes_in l (suc d)
-    → (ks : List Copy) → draft_at (book_of l).drafts (suc d) ≡ working ks false → CommitsFound l m (suc d) f c → Does l m (commit (suc d)) (reply.Segments c)
+    → (ks : List Copy) → draft_at (book_of l).drafts (suc d) ≡ working ks false → CommitsFound l m (suc d) f c → Does l m (commit (suc d)) (Ok (reply.Segments c))
 fresh_done l m d f c bytes long sound h e ks w p =
     let b : Book = book_of l in
     let lies : Lies l b = sound_lies l bytes sound in
@@ -164,12 +162,12 @@ fresh_done l m d f c bytes long sound h e ks w p =
     let cs : List Copy = changes b.segments ks in
     let finds : Finds b f cs = subst (λ (x : Found). Finds b x cs) (sym e) (finds_copies l b lies fit d h ks w fine) in
     let left : Leaves c m b (suc d) cs = p b lies fit cs finds in
-    does_step l m (commit (suc d)) (reply.Segments c) long sound (changed (segments_named cs)) (committed b (suc d) cs) (commit_fresh b (suc d) ks w)
+    does_step l m (commit (suc d)) (Ok (reply.Segments c)) long sound (changed (segments_named cs)) (committed b (suc d) cs) (commit_fresh b (suc d) ks w)
     (ap (λ (ns : List ℕ). ok (changed ns)) left.says) left.left
 
 pub commit_done : (l m : List ℕ) (d : ℕ) (f : Found) (c : Changed) → Bytes l → length l ≡ book_length → is_sound l ≡ true → 1 ≤ d → d ≤ 4
     → (o s : ℕ) → o ≡ get_or l (4 + 4 * d) 0 → o ≢ 0 → s ≡ get_or l (7 + 4 * d) 0 → s ≢ 1 → f ≡ changes_in l d → CommitsFound l m d f c
-    → Does l m (commit d) (reply.Segments c)
+    → Does l m (commit d) (Ok (reply.Segments c))
 commit_done l m zero f c bytes long sound h g o s a b e k q p = impossible (omega arith)
 commit_done l m (suc d) f c bytes long sound h g o s a b e k q p =
     fresh_done l m d f c bytes long sound (omega arith) q (copies_in l d)

@@ -1,21 +1,23 @@
 -- What undo leaves, move by move. Assumes nothing.
+use Rattle.std.specs.Prelude.{Result, Ok}
 use mathlib.Core.Path.{◌≡◌, sym, ap, subst, ◌∙◌}
 use mathlib.Core.Bool.{true}
 use mathlib.Core.List.{List}
 use Prim.Native.Nat.{ℕ, ◌+◌, ◌-◌, ◌≤◌}
 use native.Mathlib.Omega.{arith}
 use lib.ListN.{length, get_or}
-use Rattle.refusal.specs.Numbers.{no_step}
-use Rattle.refusal.specs.Answer.{ok, refused}
+use Rattle.refusal.specs.declared.Reason.TheVariants.{NoStep}
+use Rattle.refusal.specs.declared.Refusal.{Refusal}
+use Rattle.refusal.specs.Answer.{ok, refused, answer_by}
 use Rattle.blocks.specs.Block.{book_length, Bytes}
 use Rattle.steps.specs.Book.{Copy, Book}
-use Rattle.steps.specs.Calls.{changed, newest, older, undone, undo, segments_named}
+use Rattle.steps.specs.Calls.{BookAnswer, changed, newest, older, undone, undo, segments_named}
 use Rattle.steps.proofs.Order as order
 use Rattle.steps.proofs.Order.{undo_newest}
 use Rattle.layout.specs.Layout.{step_of, bytes_of, book_of}
 use Rattle.layout.specs.Tests.{is_sound}
 use Rattle.layout.specs.Lies.{Lies}
-use Rattle.layout.specs.Rule.{segments_said, Does, paper_reply}
+use Rattle.layout.specs.Rule.{segments_said, Does, value_said}
 use Rattle.layout.specs.declared.Changed.{Changed}
 use Rattle.layout.specs.declared.Reply.{Reply}
 use Rattle.layout.specs.declared.Reply.TheVariants as reply
@@ -66,14 +68,18 @@ module _ (l : List ℕ) (r : ℕ) (y : Bytes l) (s : LastStep l r) (f : Found) (
 
 -- ---- the call
 pub undo_does : (l : List ℕ) (r : ℕ) → LastStep l r → (m : List ℕ) (c : Changed) → length l ≡ book_length → PutsBack c m (book_of l) (step_of l r)
-    → Does l m undo (reply.Segments c)
+    → Does l m undo (Ok (reply.Segments c))
 undo_does l r s m c long back =
-    does_step l m undo (reply.Segments c) long s.sound (changed (segments_named (step_of l r))) (undone (book_of l) (step_of l r))
+    does_step l m undo (Ok (reply.Segments c)) long s.sound (changed (segments_named (step_of l r))) (undone (book_of l) (step_of l r))
     (undo_newest (book_of l) (step_of l r) (newest_is l r s))
     (ap (λ (ns : List ℕ). ok (changed ns)) back.says) back.left
 
 -- ---- no step
-pub undo_none : (l : List ℕ) (a : Reply) → Bytes l → length l ≡ book_length → is_sound l ≡ true → get_or l 24 0 ≡ 0 → paper_reply a ≡ refused no_step 0 → Does l l undo a
+-- a refusal as the paper's answer
+abbrev pub refusal_answer : Refusal → BookAnswer
+refusal_answer w = refused w.reason w.place
+
+pub undo_none : (l : List ℕ) (a : Result Reply Refusal) → Bytes l → length l ≡ book_length → is_sound l ≡ true → get_or l 24 0 ≡ 0 → answer_by value_said a ≡ refused NoStep 0 → Does l l undo a
 unfolding newest
 undo_none l a y long sound e p =
     does_refused l undo a long sound 22 0

@@ -18,6 +18,7 @@ ghost use Rattle.steps.specs.Calls as calls;
 
 use blocks::BookBytes;
 use layout::{Changed, Reply};
+use refusal::{Reason, Refusal};
 
 // Segments, ascending, each with the block of a draft or a step that holds what the segment is to hold.
 #[derive(Clone, Copy)]
@@ -132,38 +133,38 @@ fn commit_found(book: &mut BookBytes, d: usize, found: Found) -> Changed
 }
 
 // Commits draft d of a sound book.
-fn commit_sound(book: &mut BookBytes, d: usize) -> Reply
+fn commit_sound(book: &mut BookBytes, d: usize) -> Result<Reply, Refusal>
     requires { is_sound book.old ≡ true }
     ensures { Does book.old book.new (calls.commit d) result }
 {
     if d < 1 {
-        return layout::refused(refusal::NO_DRAFT);
+        return Err(Reason::NoDraft.into());
     }
     if 4 < d {
-        return layout::refused(refusal::NO_DRAFT);
+        return Err(Reason::NoDraft.into());
     }
     let open = usize::from(book[4 + 4 * d]);
     if open == 0 {
-        return layout::refused(refusal::NO_DRAFT);
+        return Err(Reason::NoDraft.into());
     }
     let stale = usize::from(book[7 + 4 * d]);
     if stale == 1 {
-        return layout::refused(refusal::STALE_DRAFT);
+        return Err(Reason::StaleDraft.into());
     }
     let found = changes_in(book, d);
     let changed = commit_found(book, d, found);
-    Reply::Segments(changed)
+    Ok(Reply::Segments(changed))
 }
 
 // Commits draft d: its changed segments are stored, and it closes.
-pub fn commit(book: &mut [u8], d: usize) -> Reply
+pub fn commit(book: &mut [u8], d: usize) -> Result<Reply, Refusal>
     ensures { Does book.old book.new (calls.commit d) result }
 {
     let Some(book) = book.as_mut_array() else {
-        return layout::refused(refusal::WRONG_LENGTH);
+        return Err(Reason::WrongLength.into());
     };
     if !layout::is_sound(book) {
-        return layout::refused(refusal::NOT_SOUND);
+        return Err(Reason::NotSound.into());
     }
     commit_sound(book, d)
 }
@@ -195,19 +196,19 @@ fn undo_step(book: &mut BookBytes, r: usize) -> Changed
 }
 
 // The newest step's blocks go back, the step goes, and drafts that took its segments turn stale.
-pub fn undo(book: &mut [u8]) -> Reply
+pub fn undo(book: &mut [u8]) -> Result<Reply, Refusal>
     ensures { Does book.old book.new calls.undo result }
 {
     let Some(book) = book.as_mut_array() else {
-        return layout::refused(refusal::WRONG_LENGTH);
+        return Err(Reason::WrongLength.into());
     };
     if !layout::is_sound(book) {
-        return layout::refused(refusal::NOT_SOUND);
+        return Err(Reason::NotSound.into());
     }
     let n = usize::from(book[24]);
     if n == 0 {
-        return layout::refused(refusal::NO_STEP);
+        return Err(Reason::NoStep.into());
     }
     let changed = undo_step(book, n - 1);
-    Reply::Segments(changed)
+    Ok(Reply::Segments(changed))
 }

@@ -7,7 +7,7 @@ use Rattle.std.specs.Prelude.{slice_get}
 use lib.Dec.{ltb, eqb}
 use borrow.Author.Tests.{ltb-true, lt-leb, not-true}
 use Rattle.laws.proofs.Tests.{and_left, and_right}
-use Rattle.refusal.specs.Numbers.{wrong_time, segment_full, only_place, out_of_range}
+use Rattle.refusal.specs.declared.Reason.TheVariants.{WrongTime, SegmentFull, OnlyPlace, OutOfRange}
 use Rattle.calendar.specs.Purge.{purge_of, is_purge}
 use Rattle.calendar.proofs.Laws.{purge_is_lem}
 use Rattle.codes.specs.Places.{places_end, capacity, is_set}
@@ -36,19 +36,19 @@ pub edit_fine : (issue : ℕ) (e : Edit) (c : Content) → Fine issue c → in_r
 unfolding edit_rule
 edit_fine issue read_purge c f r = told_ok _ f
 edit_fine issue read_count c f r = told_ok _ f
-edit_fine issue (read_place i) c f r = told_find (slice_get c.places i) out_of_range _ (λ p e. told_ok _ f)
+edit_fine issue (read_place i) c f r = told_find (slice_get c.places i) OutOfRange _ (λ p e. told_ok _ f)
 edit_fine issue (add p) c f r =
     told_cond (member p c.places) _ _
     (λ t. told_ok _ f)
-    (λ t. told_must (ltb (length c.places) capacity) segment_full _
+    (λ t. told_must (ltb (length c.places) capacity) SegmentFull _
     (λ u. told_ok _ (fine_is issue _
     (insert_set p c.places (fine_places issue c f) t
     (lt-leb capacity (length c.places) (ltb-true (length c.places) capacity u)) (ltb-true p places_end r))
     (fine_purge issue c f))))
 edit_fine issue (remove p) c f r =
     told_cond (member p c.places) _ _
-    (λ t. told_must (not (eqb (length c.places) 1)) only_place _
+    (λ t. told_must (not (eqb (length c.places) 1)) OnlyPlace _
     (λ u. told_ok _ (fine_is issue _ (without_set p c.places (fine_places issue c f) t (not-true _ u)) (fine_purge issue c f))))
     (λ t. told_ok _ f)
 edit_fine issue (set_purge s) c f r =
-    told_find (purge_of issue s) wrong_time _ (λ m e. told_ok _ (fine_is issue _ (fine_places issue c f) (purge_is_lem issue s m e)))
+    told_find (purge_of issue s) WrongTime _ (λ m e. told_ok _ (fine_is issue _ (fine_places issue c f) (purge_is_lem issue s m e)))

@@ -9,7 +9,7 @@ use lib.ListN.{length, length-map}
 use Rattle.laws.proofs.Tests.{apart}
 use Rattle.laws.specs.Lists.{All, all_nil, all_cons}
 use Rattle.laws.proofs.Lookups.{some_same}
-use Rattle.refusal.specs.Numbers.{no_draft, all_open, no_such_segment, stale_draft, no_step, out_of_range}
+use Rattle.refusal.specs.declared.Reason.TheVariants.{NoDraft, AllOpen, NoSuchSegment, StaleDraft, NoStep, OutOfRange}
 use Rattle.codes.specs.Block.{Content}
 use Rattle.steps.specs.Book.{Copy, Draft, closed, working, History, Book, at, put, draft_at, new_book}
 use Rattle.steps.specs.Calls.{Call, opening, on, commit, drop, undo, Value, in_range, work_rule, staled, stored, changes, old_of, remember, newest, older, with_drafts, lowest, committed, undone, OpenDraft, open_draft, book_rule, step}
@@ -106,20 +106,20 @@ module _ (b : Book) (h : Sound b) where
   pub rule_fine : (c : Call) → Told (λ (z : Value × Book). Sound z.1) (book_rule b c)
   unfolding book_rule
   rule_fine opening =
-      told_find (lowest 1 b.drafts) all_open _ (λ d e. told_ok _ (put_sound b d (working [] false)
+      told_find (lowest 1 b.drafts) AllOpen _ (λ d e. told_ok _ (put_sound b d (working [] false)
       (working_fine (record { two = omega arith; copies = all_nil; distinct = none_twice; taken = λ (q : false ≡ true). apart cc })) h))
   rule_fine (on d s w) =
-      told_find (open_draft (draft_at b.drafts d)) no_draft _ (λ x e. told_must (in_range w) out_of_range _ (λ r. told_find (at b.segments s) no_such_segment _
+      told_find (open_draft (draft_at b.drafts d)) NoDraft _ (λ x e. told_must (in_range w) OutOfRange _ (λ r. told_find (at b.segments s) NoSuchSegment _
       (λ c g.
       let a = all_stands b.segments s c h.contents g in
       told_then (work_rule i s c w x.copies) _
       (work_fine i n s x.stale c x.copies (opened d e) w r (record { from = a.from; to = a.to; fine = a.is }))
       (λ z f. told_ok _ (put_sound b d (working z.1 x.stale) (working_fine f) h)))))
   rule_fine (commit d) =
-      told_find (open_draft (draft_at b.drafts d)) no_draft _ (λ x e. told_must (not x.stale) stale_draft _ (λ t. told_ok _ (commit_sound d x (opened d e))))
+      told_find (open_draft (draft_at b.drafts d)) NoDraft _ (λ x e. told_must (not x.stale) StaleDraft _ (λ t. told_ok _ (commit_sound d x (opened d e))))
   rule_fine (drop d) =
-      told_find (open_draft (draft_at b.drafts d)) no_draft _ (λ x e. told_ok _ (put_sound b d closed closed_fine h))
-  rule_fine undo = told_find (newest b.history.kept) no_step _ (λ cs e. told_ok _ (undo_sound cs e))
+      told_find (open_draft (draft_at b.drafts d)) NoDraft _ (λ x e. told_ok _ (put_sound b d closed closed_fine h))
+  rule_fine undo = told_find (newest b.history.kept) NoStep _ (λ cs e. told_ok _ (undo_sound cs e))
 
 -- every call keeps a book sound
 pub step_sound : (b : Book) (c : Call) → Sound b → Sound (step b c).1

@@ -7,7 +7,7 @@ use lib.ListN.{set}
 use Rattle.std.specs.Prelude.{slice_get}
 use Rattle.laws.proofs.Tests.{apart}
 use Rattle.laws.proofs.Lookups.{some_same}
-use Rattle.refusal.specs.Numbers.{no_draft, no_such_segment, not_taken, out_of_range}
+use Rattle.refusal.specs.declared.Reason.TheVariants.{NoDraft, NoSuchSegment, NotTaken, OutOfRange}
 use Rattle.codes.specs.Block.{Content}
 use Rattle.steps.specs.Book.{Copy, Draft, closed, working, Book, at, put, or_closed, draft_at}
 use Rattle.steps.specs.Calls.{Edit, editing, on, Value, edit_rule, in_range, copy_of, recopy, work_rule, with_drafts, OpenDraft, open_draft, book_rule, step}
@@ -37,14 +37,14 @@ reads_work : (issue s : ℕ) (c : Content) {ks : List Copy} {e : Edit} → Reads
     → Told (λ (z : Value × List Copy). z.1 ≡ ks) (work_rule issue s c (editing e) ks)
 unfolding work_rule
 reads_work issue s c {ks} {e} r x =
-    told_find (copy_of s ks) not_taken _ (λ k q. told_then (edit_rule issue e k) _ (read_told issue r k)
+    told_find (copy_of s ks) NotTaken _ (λ k q. told_then (edit_rule issue e k) _ (read_told issue r k)
     (λ z h. told_ok _ (ap (λ (c : Content). recopy s c ks) h ∙ recopy_same s k ks q x)))
 
 pub reads_rule : (b : Book) (d s : ℕ) {e : Edit} → Reads e → Sound b → Told (λ (z : Value × Book). z.1 ≡ b) (book_rule b (on d s (editing e)))
 unfolding book_rule
 reads_rule b d s {e} r h =
-    told_find (open_draft (draft_at b.drafts d)) no_draft _ (λ x q. told_must (in_range (editing e)) out_of_range _
-    (λ t. told_find (at b.segments s) no_such_segment _
+    told_find (open_draft (draft_at b.drafts d)) NoDraft _ (λ x q. told_must (in_range (editing e)) OutOfRange _
+    (λ t. told_find (at b.segments s) NoSuchSegment _
     (λ c g. told_then (work_rule b.issue s c (editing e) x.copies) _ (reads_work b.issue s c r (open_fine (draft_fine b d h) q).distinct)
     (λ z f. told_ok _ (ap (λ (js : List Copy). with_drafts b (put b.drafts d (working js x.stale))) f
     ∙ ap (with_drafts b) (draft_own b.drafts d (working x.copies x.stale) (open_is (draft_at b.drafts d) x q)))))))

@@ -14,7 +14,7 @@ use Rattle.laws.proofs.Tests.{apart, either_way, or_no, choose}
 use Rattle.laws.proofs.Lists.{all_append}
 use Rattle.laws.specs.Lists.{All, all_nil, all_cons}
 use Rattle.laws.proofs.Lookups.{some_same}
-use Rattle.refusal.specs.Numbers.{not_taken, taken_already, two_taken}
+use Rattle.refusal.specs.declared.Reason.TheVariants.{NotTaken, TakenAlready, TwoTaken}
 use Rattle.codes.specs.Block.{Content}
 use Rattle.steps.specs.Book.{Copy}
 use Rattle.steps.specs.Calls.{Work, taking, editing, Value, edit_rule, in_range, copy_of, recopy, has, work_rule}
@@ -93,8 +93,8 @@ module _ (issue n s : ℕ) (stale : Bool) (c : Content) (ks : List Copy) (h : Fi
       → Told (λ (z : Value × List Copy). FineTaken issue n z.1 stale) (work_rule issue s c w ks)
   unfolding work_rule
   work_fine taking r f =
-      told_must (not (has s ks)) taken_already _ (λ t. told_must (ltb (length ks) 2) two_taken _
+      told_must (not (has s ks)) TakenAlready _ (λ t. told_must (ltb (length ks) 2) TwoTaken _
       (λ u. told_ok _ (take_fine f (not-true (has s ks) t) (ltb-true (length ks) 2 u))))
   work_fine (editing e) r f =
-      told_find (copy_of s ks) not_taken _ (λ k q. told_then (edit_rule issue e k) _ (edit_fine issue e k (copy_fine issue n s ks k h.copies q) r)
+      told_find (copy_of s ks) NotTaken _ (λ k q. told_then (edit_rule issue e k) _ (edit_fine issue e k (copy_fine issue n s ks k h.copies q) r)
       (λ z g. told_ok _ (recopy_fine z.1 g)))

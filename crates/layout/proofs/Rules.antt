@@ -6,15 +6,17 @@ use Prim.Native.Nat.{ℕ}
 use mathlib.Core.Logic.{◌≢◌}
 use lib.ListN.{length}
 use borrow.Author.Tests.{eq-eqb, ne_eqb}
-use Rattle.refusal.specs.Numbers.{wrong_length, not_sound}
-use Rattle.refusal.specs.Answer.{Answer, ok, no, refused, and_then}
+use Rattle.refusal.specs.declared.Reason.TheVariants.{WrongLength, NotSound}
+use Rattle.refusal.specs.Answer.{Answer, ok, no, refused, and_then, answer_by}
+use Rattle.std.specs.Prelude.{Result}
+use Rattle.refusal.specs.declared.Refusal.{Refusal}
 use Rattle.blocks.specs.Block.{book_length}
 use Rattle.steps.specs.Book.{Book}
 use Rattle.steps.specs.Calls.{Call, Value, BookAnswer, settle, book_rule}
 use Rattle.steps.proofs.Leaving.{settle_refused}
 use Rattle.layout.specs.Layout.{bytes_of, book_of}
 use Rattle.layout.specs.Tests.{is_sound}
-use Rattle.layout.specs.Rule.{bytes_rule, on_bytes, paper_reply, Does}
+use Rattle.layout.specs.Rule.{bytes_rule, on_bytes, value_said, Does}
 use Rattle.layout.specs.declared.Reply.{Reply}
 
 -- the rule of a call on a book, with the bytes of the book that it leaves
@@ -24,11 +26,11 @@ in_book r = ok (r.0, bytes_of r.1)
 unfoldable pub in_bytes : Answer (Value × Book) → Answer (Value × List ℕ)
 in_bytes r = and_then r in_book
 
-pub rule_short : (l : List ℕ) (c : Call) → length l ≢ book_length → bytes_rule l c ≡ refused wrong_length 0
+pub rule_short : (l : List ℕ) (c : Call) → length l ≢ book_length → bytes_rule l c ≡ refused WrongLength 0
 unfolding bytes_rule and_then
 rule_short l c h = rw (ne_eqb (length l) book_length h)
 
-pub rule_unsound : (l : List ℕ) (c : Call) → length l ≡ book_length → is_sound l ≡ false → bytes_rule l c ≡ refused not_sound 0
+pub rule_unsound : (l : List ℕ) (c : Call) → length l ≡ book_length → is_sound l ≡ false → bytes_rule l c ≡ refused NotSound 0
 unfolding bytes_rule and_then
 rule_unsound l c h e = rw (eq-eqb (length l) book_length h, e)
 
@@ -60,23 +62,23 @@ unfolding on_bytes
 refused_bytes l c n p e = settle_refused l (bytes_rule l c) n p e
 
 -- ---- the promise of a call
-module _ (l m : List ℕ) (c : Call) (r : Reply) (a : BookAnswer) where
-  does_is : on_bytes l c ≡ (a, m) → paper_reply r ≡ a → Does l m c r
+module _ (l m : List ℕ) (c : Call) (r : Result Reply Refusal) (a : BookAnswer) where
+  does_is : on_bytes l c ≡ (a, m) → answer_by value_said r ≡ a → Does l m c r
   does_is e p =
       record { answer = p ∙ sym (ap (λ (z : BookAnswer × List ℕ). z.0) e); left = sym (ap (λ (z : BookAnswer × List ℕ). z.1) e) }
 
 -- what its rule does
-pub does_step : (l m : List ℕ) (c : Call) (r : Reply) → length l ≡ book_length → is_sound l ≡ true → (v : Value) (b : Book) → book_rule (book_of l) c ≡ ok (v, b)
-    → paper_reply r ≡ ok v → m ≡ bytes_of b → Does l m c r
+pub does_step : (l m : List ℕ) (c : Call) (r : Result Reply Refusal) → length l ≡ book_length → is_sound l ≡ true → (v : Value) (b : Book) → book_rule (book_of l) c ≡ ok (v, b)
+    → answer_by value_said r ≡ ok v → m ≡ bytes_of b → Does l m c r
 does_step l m c r h e v b q p z = does_is l m c r (ok v) (book_left l c h e v b q ∙ ap (λ (x : List ℕ). (ok v, x)) (sym z)) p
 
-module _ (l : List ℕ) (c : Call) (r : Reply) where
+module _ (l : List ℕ) (c : Call) (r : Result Reply Refusal) where
   -- a refused call leaves every byte
-  pub does_refused : length l ≡ book_length → is_sound l ≡ true → (n p : ℕ) → book_rule (book_of l) c ≡ no n p → paper_reply r ≡ no n p → Does l l c r
+  pub does_refused : length l ≡ book_length → is_sound l ≡ true → (n p : ℕ) → book_rule (book_of l) c ≡ no n p → answer_by value_said r ≡ no n p → Does l l c r
   does_refused h e n p q a = does_is l l c r (no n p) (book_refused l c h e n p q) a
 
-  pub does_short : length l ≢ book_length → paper_reply r ≡ refused wrong_length 0 → Does l l c r
-  does_short h p = does_is l l c r (refused wrong_length 0) (bytes_refused l c 1 0 (rule_short l c h)) p
+  pub does_short : length l ≢ book_length → answer_by value_said r ≡ refused WrongLength 0 → Does l l c r
+  does_short h p = does_is l l c r (refused WrongLength 0) (bytes_refused l c 1 0 (rule_short l c h)) p
 
-  pub does_unsound : length l ≡ book_length → is_sound l ≡ false → paper_reply r ≡ refused not_sound 0 → Does l l c r
-  does_unsound h e p = does_is l l c r (refused not_sound 0) (bytes_refused l c 12 0 (rule_unsound l c h e)) p
+  pub does_unsound : length l ≡ book_length → is_sound l ≡ false → answer_by value_said r ≡ refused NotSound 0 → Does l l c r
+  does_unsound h e p = does_is l l c r (refused NotSound 0) (bytes_refused l c 12 0 (rule_unsound l c h e)) p

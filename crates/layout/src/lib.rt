@@ -12,7 +12,6 @@ ghost use Rattle.layout.specs.Tests.{is_draft, is_step, is_draft_at, is_step_at,
 
 use blocks::BookBytes;
 use checks::Block;
-use refusal::Refusal;
 
 // Segments that changed, ascending.
 #[derive(Clone, Copy)]
@@ -22,7 +21,7 @@ pub enum Changed {
     Two(usize, usize),
 }
 
-// The answer of a call on a book.
+// The answer of a call on a book that is not refused.
 #[derive(Clone, Copy)]
 pub enum Reply {
     Draft(usize),
@@ -30,14 +29,6 @@ pub enum Reply {
     Number(usize),
     Was(bool),
     Segments(Changed),
-    Refused(Refusal),
-}
-
-// A refusal of a call on a book: its place is 0.
-pub fn refused(number: usize) -> Reply
-    ensures { result ≡ Reply.Refused (record { number = number; place = 0 }) }
-{
-    Reply::Refused(Refusal { number, place: 0 })
 }
 
 // ---- soundness: block 0, then the others one after another

@@ -6,16 +6,15 @@ use native.Mathlib.Omega.{arith}
 use mathlib.Core.Path.{◌≡◌, refl, ap, ◌∙◌}
 use mathlib.Core.List.{List, [], ◌∷◌}
 use mathlib.Core.Bool.{Bool, true, false, cond, ◌&&◌, ◌||◌}
-use Rattle.std.specs.Prelude.{Option, None, Some}
+use Rattle.std.specs.Prelude.{Option, None, Some, Ok, Err}
 use lib.ListN.{length, get_or, drop, drop_of_length-le}
 use lib.Seq.{drop-cons, drop-drop}
 use lib.Dec.{ltb, eqb}
 use borrow.Author.Tests.{le-ltb, lt-ltb, eq-eqb, ne_eqb}
 use Rattle.laws.proofs.Tests.{by, by_order}
-use Rattle.refusal.specs.Numbers.{wrong_text}
-use Rattle.refusal.specs.Answer.{refusal_for, paper_verdict}
-use Rattle.refusal.specs.declared.Verdict.{Verdict}
-use Rattle.refusal.specs.declared.Verdict.TheVariants.{Accepted, Refused}
+use Rattle.refusal.specs.declared.Reason.TheVariants.{WrongText}
+use Rattle.refusal.specs.Answer.{refusal_for, answer_of}
+use Rattle.refusal.specs.declared.Refusal.{Refusal}
 use Rattle.lines.specs.Bytes.{between, word, begins}
 use Rattle.lines.specs.Lines.{pieces, end_bytes, body_of, lines_at, lines_from, lines_of}
 use Rattle.lines.specs.Check.{allowed, bad_byte, long_line, last_ends, unended, least, text_fault, check_text}
@@ -144,11 +143,11 @@ later_from s i start h k e =
     (from_less i (length s) (unended s) h (unended_from s))
 
 -- ---- the answer, by the least place
-fine_is : (s : List ℕ) → text_fault s ≡ None → paper_verdict Accepted ≡ check_text s
+fine_is : (s : List ℕ) → text_fault s ≡ None → answer_of (Ok tt) ≡ check_text s
 unfolding check_text
 fine_is s e = rw e
 
-fault_is : (s : List ℕ) (i : ℕ) → text_fault s ≡ Some i → (r : Verdict) → r ≡ Refused (refusal_for wrong_text i) → paper_verdict r ≡ check_text s
+fault_is : (s : List ℕ) (i : ℕ) → text_fault s ≡ Some i → (r : Refusal) → r ≡ refusal_for WrongText i → answer_of (Err r) ≡ check_text s
 unfolding check_text
 fault_is s i e r q = rw (e, q)
 
@@ -186,7 +185,7 @@ module _ (s : List ℕ) (start i : ℕ) (v : Checks s start i) (h : length s ≤
   unfolding last_from
   fin_last = last_ends_lem s ∙ v.fin ∙ rw (drop_of_length-le s h)
 
-pub checks_fine : (s : List ℕ) (start : ℕ) → Checks s start start → length s ≤ start → paper_verdict Accepted ≡ check_text s
+pub checks_fine : (s : List ℕ) (start : ℕ) → Checks s start start → length s ≤ start → answer_of (Ok tt) ≡ check_text s
 unfolding text_fault least unended
 checks_fine s start v h = fine_is s (rw (bad_last s start start v h, v.long, long_past s start h, fin_last s start start v h, eq-eqb start start refl))
 
@@ -199,7 +198,7 @@ module _ (s : List ℕ) (start : ℕ) (v : Checks s start start) (e : ℕ) (is :
   far = omega (arith, there.line.ends, end_ge s e)
 
   -- the 133rd byte of a line
-  pub checks_long : 132 < e - start → (r : Verdict) → r ≡ Refused (refusal_for wrong_text (start + 132)) → paper_verdict r ≡ check_text s
+  pub checks_long : 132 < e - start → (r : Refusal) → r ≡ refusal_for WrongText (start + 132) → answer_of (Err r) ≡ check_text s
   unfolding text_fault
   checks_long q =
       let high : e ≤ length s = there.high in
@@ -228,7 +227,7 @@ module _ (s : List ℕ) (start : ℕ) (v : Checks s start start) (e : ℕ) (is :
         let no-long : long_line (lines_of s) ≡ None = there.long ∙ long_on s start l e (there.line.goes ∙ next_last s e h) (omega (arith, there.line.ends, end_last s e h)) ∙ long_past s e h in
         rw (bad_last s start e there h, no-long, fin_last s start e there h, ne_eqb start e (omega arith), all)
 
-    pub checks_wrong : start < length s → t ≡ false → (r : Verdict) → r ≡ Refused (refusal_for wrong_text e) → paper_verdict r ≡ check_text s
+    pub checks_wrong : start < length s → t ≡ false → (r : Refusal) → r ≡ refusal_for WrongText e → answer_of (Err r) ≡ check_text s
     checks_wrong l z = fault_is s e (by_order e (length s) (bad_here z) (open_here l))
 
     -- a line's end

@@ -1,5 +1,4 @@
 pub mod Strings
 pub mod Ends
 pub mod Scans
-pub mod Tests
 pub mod Checks

@@ -4,7 +4,7 @@ use Rattle.std.specs.Prelude.{Option, None, Some}
 use Rattle.lines.specs.Bytes.{lf, cr, between, is, word, begins}
 use Rattle.lines.specs.Lines.{Line, lines_of}
 use Rattle.refusal.specs.Answer.{Answer, refused_at}
-use Rattle.refusal.specs.Numbers.{wrong_text}
+use Rattle.refusal.specs.declared.Reason.TheVariants.{WrongText}
 
 -- "Allowed: bytes 32 to 126, LF, and CR only directly before LF or directly before the pair CR LF." s is what follows the byte b.
 abbrev pub allowed : ℕ → List ℕ → Bool
@@ -44,4 +44,4 @@ text_fault text = least (bad_byte 0 text) (least (long_line (lines_of text)) (un
 
 -- | 2 | byte, line length or last line end wrong | least of: bad byte, 133rd byte of a line, text length |
 unfoldable pub check_text : List ℕ → Answer Unit
-check_text text = refused_at wrong_text (text_fault text)
+check_text text = refused_at WrongText (text_fault text)

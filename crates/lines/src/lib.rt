@@ -2,8 +2,7 @@
 #![tactic(auto)]
 
 ghost use Rattle.std.specs.Prelude.{◌≡◌, ◌+◌, ◌-◌, min, ◌≤◌, ◌<◌, length, get_or, drop, cond};
-ghost use Rattle.refusal.specs.Numbers.{wrong_text};
-ghost use Rattle.refusal.specs.Answer.{refusal_for, paper_verdict};
+ghost use Rattle.refusal.specs.Answer.{answer_of};
 ghost use Rattle.lines.specs.Bytes.{between, capital, digit, literally, begins};
 ghost use Rattle.lines.specs.Lines.{end_bytes, blank, is_end, opens};
 ghost use Rattle.lines.specs.Check.{check_text};
@@ -11,7 +10,7 @@ ghost use Rattle.lines.specs.Spans.{span_at, part, end_at};
 ghost use Rattle.lines.specs.Lines.{ends_line};
 ghost use Rattle.lines.specs.Printables.{printables};
 
-use refusal::{Refusal, Verdict};
+use refusal::{Reason, Refusal};
 
 // A line's places: its bytes are start..end, and the next line starts at next; and how it ended.
 #[derive(Clone, Copy)]
@@ -217,30 +216,21 @@ pub fn opens_block(line: &[u8]) -> bool
     capital(s) && capital(t) && (three_digits || [x, y, z] == *b"ALL")
 }
 
-fn wrong(place: usize) -> Verdict
-    ensures { result ≡ Verdict.Refused (refusal_for wrong_text place) }
-{
-    Verdict::Refused(Refusal {
-        number: refusal::WRONG_TEXT,
-        place,
-    })
-}
-
 // Refusal 2, line by line: at most 132 printable bytes, and behind them the line's end.
-pub fn check_text(text: &[u8]) -> Verdict
-    ensures { paper_verdict result ≡ check_text text.now }
+pub fn check_text(text: &[u8]) -> Result<(), Refusal>
+    ensures { answer_of result ≡ check_text text.now }
 {
     let mut start = 0;
     while start < text.len() {
         let end = printable_end(text, start);
         if 132 < end - start {
-            return wrong(start + 132);
+            return Err(Reason::WrongText.at(start + 132));
         }
         let ended = find_ending(text, end);
         if !ended.is_ended() {
-            return wrong(end);
+            return Err(Reason::WrongText.at(end));
         }
         start = end + ended.length();
     }
-    Verdict::Accepted
+    Ok(())
 }

@@ -1,7 +1,7 @@
 // The listing program: `YYYY MM` and LF, then a bulletin; it prints the heading and each segment, or the refusal.
 #![tactic(auto)]
 
-use refusal::Refusal;
+use refusal::Reason;
 use std::io;
 
 fn main(rt: HostRuntime) -> io::Result<()> {
@@ -11,18 +11,7 @@ fn main(rt: HostRuntime) -> io::Result<()> {
     let mut out = io::writer(&rt);
     let whole = &input[0..got];
     match printing::read_asked(whole) {
-        Some(time) => printing::list(
-            &mut out,
-            lines::part(whole, 8, got),
-            time.year,
-            time.month,
-        ),
-        None => printing::say_refusal(
-            &mut out,
-            Refusal {
-                number: refusal::OUT_OF_RANGE,
-                place: 0,
-            },
-        ),
+        Some(time) => printing::list(&mut out, lines::part(whole, 8, got), time.year, time.month),
+        None => printing::say_refusal(&mut out, Reason::OutOfRange.at(0)),
     }
 }

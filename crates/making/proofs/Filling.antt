@@ -18,7 +18,7 @@ use Rattle.laws.proofs.Tests.{apart, by}
 use Rattle.laws.proofs.Lists.{all_get}
 use Rattle.laws.specs.Lists.{All}
 use Rattle.laws.proofs.Lookups.{get_more, get_last}
-use Rattle.refusal.specs.Numbers.{too_many_places}
+use Rattle.refusal.specs.declared.Reason.TheVariants.{TooManyPlaces}
 use Rattle.refusal.specs.Answer.{ok, refused}
 use Rattle.calendar.specs.Purge.{purge_of}
 use Rattle.calendar.proofs.Laws.{purge_low}
@@ -47,7 +47,7 @@ counted_kept start d c h e =
     (λ t. let w : ok d ≡ ok c = rw t at e in
     let same : d ≡ c = cc in
     subst Kept same (record { few = leb-true (length d.places) capacity t; low = h }))
-    (λ t. let w : refused too_many_places start ≡ ok c = rw t at e in apart cc)
+    (λ t. let w : refused TooManyPlaces start ≡ ok c = rw t at e in apart cc)
 
 dated_kept : (start at : ℕ) (ps : List ℕ) (o : Option ℕ) (c : codes.Content) → ((t : ℕ) → o ≡ Some t → t < 4294967296) → dated start at ps o ≡ ok c → Kept c
 dated_kept start at ps None c h e = apart cc

@@ -19,7 +19,7 @@ use Rattle.segments.specs.Segments.{Segment, runs_to, past_purge, opened, ninth,
 use Rattle.bulletin.specs.Starts.{segments_of, from_line3, first_lines, one_or_more}
 use Rattle.bulletin.specs.Bulletin.{Bulletin, issued, read_bulletin}
 use Rattle.bulletin.proofs.Saying.{then_back, ok_one, by_then}
-use Rattle.refusal.specs.Numbers.{wrong_time, wrong_block}
+use Rattle.refusal.specs.declared.Reason.TheVariants.{WrongTime, WrongBlock}
 use Rattle.calendar.specs.Calendar.{is_issue_month, minute_of}
 use Rattle.calendar.specs.declared.Stamp.{Stamp}
 use Rattle.heading.specs.Heading.{Heading}
@@ -85,7 +85,7 @@ from_line3_lem text past p stop (l ∷ ls) f rs e =
     (λ t. subst (From text) (ok_one past rs (rw t at e)) p)
     λ t. by (opens l.body)
     (λ o. subst (From text) (ok_one (l ∷ ls) rs (rw (t, o) at e)) f)
-    λ o. let w : refused wrong_block l.start ≡ ok rs = rw (t, o) at e in apart cc
+    λ o. let w : refused WrongBlock l.start ≡ ok rs = rw (t, o) at e in apart cc
 
 first_from : (text : List ℕ) (stop : ℕ) (rs : List Line) → first_lines stop (lines_of text) ≡ ok rs → From text rs
 unfolding first_lines
@@ -107,12 +107,12 @@ some_same stop (g ∷ gs) hs e = let p = ok_one (g ∷ gs) hs e in record { same
 
 -- what a bulletin that is read went through
 pub record Read (text : List ℕ) (year month : ℕ) (b : Bulletin) : Type 0 where
-  pub known : must (is_issue_month year month) wrong_time 0 ≡ ok tt
+  pub known : must (is_issue_month year month) WrongTime 0 ≡ ok tt
   pub stamp : Stamp
   pub dated : issued (minute_of (record { year = year; month = month; stamp = stamp })) ≡ ok b.issue
   pub listed : segments_of text b.issue (lines_of text) ≡ ok b.segments
 
-read_last : (text : List ℕ) (year month : ℕ) (b : Bulletin) (h : Heading) (n issue : ℕ) (s : Option StormName) (gs : List Segment) → must (is_issue_month year month) wrong_time 0 ≡ ok tt
+read_last : (text : List ℕ) (year month : ℕ) (b : Bulletin) (h : Heading) (n issue : ℕ) (s : Option StormName) (gs : List Segment) → must (is_issue_month year month) WrongTime 0 ≡ ok tt
     → issued (minute_of (record { year = year; month = month; stamp = h.stamp })) ≡ ok issue → segments_of text issue (lines_of text) ≡ ok gs
     → record { heading = h; identifier = n; issue = issue; storm = s; segments = gs } ≡ b → Read text year month b
 read_last text year month b h n issue s gs k d l e =

@@ -11,11 +11,10 @@ use lib.Seq.{length-take-le}
 use borrow.Author.Tests.{ne_eqb}
 use Rattle.laws.proofs.Lists.{all_each}
 use Rattle.laws.specs.Lists.{All}
-use Rattle.refusal.specs.Numbers.{wrong_length}
-use Rattle.refusal.specs.Answer.{Answer, ok, no, refused, refusal_for, and_then, paper_verdict}
+use Rattle.refusal.specs.declared.Reason.TheVariants.{WrongLength}
+use Rattle.refusal.specs.Answer.{Answer, ok, refused, refusal_for, and_then, answer_of}
+use Rattle.std.specs.Prelude.{Result, Ok, Err, IfOk}
 use Rattle.refusal.specs.declared.Refusal.{Refusal}
-use Rattle.refusal.specs.declared.Verdict.{Verdict}
-use Rattle.refusal.specs.declared.Verdict.TheVariants as verdict
 use Rattle.codes.specs.Places.{capacity}
 use Rattle.codes.specs.Block.{Content, content_at}
 use Rattle.segments.specs.Segments as segments
@@ -26,8 +25,6 @@ use Rattle.bulletin.specs.Report.{reported, report_of, Reads}
 use Rattle.segments.specs.KeptAt.{keep_each}
 use Rattle.bulletin.specs.Kept.{places_of, kept_places, KeepsPlaces}
 use Rattle.segments.specs.declared.Segment.{Segment}
-use Rattle.bulletin.specs.declared.Head.{Head}
-use Rattle.bulletin.specs.declared.Reading.TheVariants as reading
 use Rattle.bulletin.specs.declared.Bulletin.{Bulletin}
 use Rattle.bulletin.proofs.Saying.{contents_said, part_is, Told, told_by, refused_by}
 use Rattle.blocks.specs.Block.{book_length}
@@ -63,12 +60,12 @@ module _ (text : List ℕ) (issue : ℕ) (gs : List segments.Segment) (a : All (
   contents_kept ks few long = contents_by (keep_each places_of 0 gs ks) 0 gs (λ k g e. rw (zero-add k) (part_is text issue gs a ks few long k g e))
 
 -- what the rule says gives the promise
-ruled : (l d text : List ℕ) (year month : ℕ) (r : Verdict) (a : Answer Book) → make_rule l text year month ≡ a → paper_verdict r ≡ made_answer a → d ≡ made_bytes a l
+ruled : (l d text : List ℕ) (year month : ℕ) (r : Result Unit Refusal) (a : Answer Book) → make_rule l text year month ≡ a → answer_of r ≡ made_answer a → d ≡ made_bytes a l
     → Makes l d text year month r
 ruled l d text year month r a e f g = record { answer = f ∙ ap made_answer (sym e); left = g ∙ ap (λ (x : Answer Book). made_bytes x l) (sym e) }
 
 -- ---- the rule, at each way out
-rule_short : (l text : List ℕ) (year month : ℕ) → (length l ≡ book_length → ⊥) → make_rule l text year month ≡ refused wrong_length 0
+rule_short : (l text : List ℕ) (year month : ℕ) → (length l ≡ book_length → ⊥) → make_rule l text year month ≡ refused WrongLength 0
 unfolding make_rule and_then
 rule_short l text year month h = rw (ne_eqb (length l) book_length h)
 
@@ -79,38 +76,41 @@ rule_long l text year month h a e = rw (h, e)
 
 -- ---- the ways out
 module _ (l text : List ℕ) (year month : ℕ) where
-  pub make_short : (length l ≡ book_length → ⊥) → (r : Verdict) → r ≡ verdict.Refused (refusal_for wrong_length 0) → Makes l l text year month r
-  make_short h r e = ruled l l text year month r (refused wrong_length 0) (rule_short l text year month h) (ap paper_verdict e) refl
+  pub make_short : (length l ≡ book_length → ⊥) → (w : Refusal) → w ≡ refusal_for WrongLength 0 → Makes l l text year month (Err w)
+  make_short h w e = ruled l l text year month (Err w) (refused WrongLength 0) (rule_short l text year month h) (rw e) refl
 
-  module _ (b : Bulletin) (ks₀ ks : List ℕ) (kept : KeepsPlaces ks₀ ks text year month b) where
-    reads : Reads text year month b
+  module _ (r : Result Bulletin Refusal) (ks₀ ks : List ℕ) (kept : KeepsPlaces ks₀ ks text year month r) where
+    reads : Reads text year month r
     reads = kept.answer
 
-    module _ (r : Refusal) (q : b.reading ≡ reading.Refused r) where
-      read_no : no r.number r.place ≡ reported (read_bulletin text year month)
+    module _ (w : Refusal) (q : r ≡ Err w) where
+      read_no : refused w.reason w.place ≡ reported (read_bulletin text year month)
       read_no = rw q at reads.says
 
-      pub make_refused : length l ≡ book_length → Makes l l text year month (verdict.Refused r)
+      pub make_refused : length l ≡ book_length → Makes l l text year month (Err w)
       unfolding and_then
       make_refused h =
-          let e = refused_by text year month r (read_bulletin text year month) refl read_no in
-          ruled l l text year month (verdict.Refused r) (no r.number r.place) (rule_long l text year month h (no r.number r.place) e) refl refl
+          let e = refused_by text year month w (read_bulletin text year month) refl read_no in
+          ruled l l text year month (Err w) (refused w.reason w.place) (rule_long l text year month h (refused w.reason w.place) e) refl refl
 
-    module _ (h : Head) (q : b.reading ≡ reading.Accepted h) where
-      read_ok : ok (report_of h (segments_held b.segments)) ≡ reported (read_bulletin text year month)
+    module _ (b : Bulletin) (q : r ≡ Ok b) where
+      read_ok : ok (report_of b.head (segments_held b.segments)) ≡ reported (read_bulletin text year month)
       read_ok = rw q at reads.says
 
-      told : Told text year month h (segments_held b.segments)
-      told = told_by text year month h (segments_held b.segments) (read_bulletin text year month) refl read_ok
+      told : Told text year month b.head (segments_held b.segments)
+      told = told_by text year month b.head (segments_held b.segments) (read_bulletin text year month) refl read_ok
 
       -- the issue has 32 bits
-      pub make_issue : h.issue < 4294967296
+      pub make_issue : b.head.issue < 4294967296
       make_issue = let e = told.issue in omega (arith, issue_low told.said.issue (made_issue text year month told.said told.read))
 
       pub make_storable : All Storable (segments_held b.segments)
       make_storable = subst (All Storable) (sym told.seen_are) (storable text told.said.issue told.said.segments (contents_said text year month told.said told.read))
 
-      module _ (z : Sized b.segments) where
+      module _ (is-sized : IfOk r (λ b. Sized b.segments)) where
+        z : Sized b.segments
+        z = rw q at is-sized
+
         long : length told.said.segments ≡ b.segments.count
         long =
             sym (length-map told.said.segments seen)
@@ -124,12 +124,12 @@ module _ (l text : List ℕ) (year month : ℕ) where
             ap₂ (λ (l : List ℕ) (gs : List Segment). contents_from 0 l gs) f told.seen_are
             ∙ contents_kept text told.said.issue told.said.segments (contents_said text year month told.said told.read) ks₀ few k
 
-        pub make_made : length l ≡ book_length → length ks₀ ≡ 960 → (l₁ d : List ℕ) → Filled (contents_from 0 ks (segments_held b.segments)) l₁ → Indexed l₁ h.issue b.segments.count d → Makes l d text year month verdict.Accepted
+        pub make_made : length l ≡ book_length → length ks₀ ≡ 960 → (l₁ d : List ℕ) → Filled (contents_from 0 ks (segments_held b.segments)) l₁ → Indexed l₁ b.head.issue b.segments.count d → Makes l d text year month (Ok tt)
         unfolding and_then
         make_made g k l₁ d f i =
             let cs : List Content = map content_of told.said.segments in
             let filled : Filled cs l₁ = subst (λ (x : List Content). Filled x l₁) (contents_are k) f in
-            ruled l d text year month verdict.Accepted (ok (book_from told.said))
+            ruled l d text year month (Ok tt) (ok (book_from told.said))
             (rule_long l text year month g (ok told.said) told.read) refl
             (i.whole cs (length-map told.said.segments content_of ∙ long) (omega (arith, z.few)) filled
             ∙ ap (λ (issue : ℕ). bytes_of (new_book issue cs)) told.issue)

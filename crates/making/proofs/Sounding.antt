@@ -10,7 +10,8 @@ use borrow.Author.Tests.{lt-ltb}
 use Rattle.laws.proofs.Tests.{apart}
 use Rattle.laws.proofs.Lists.{all_map}
 use Rattle.laws.specs.Lists.{All, all_nil, all_cons}
-use Rattle.refusal.specs.Numbers.{Reason, wrong_time}
+use Rattle.refusal.specs.declared.Reason.{Reason}
+use Rattle.refusal.specs.declared.Reason.TheVariants.{WrongTime}
 use Rattle.refusal.specs.Answer.{ok, must}
 use Rattle.lines.specs.declared.End.{End}
 use Rattle.months.specs.Months.{year_of, month_of_year, issue_months, start_of, month_of}
@@ -61,7 +62,7 @@ pub made_issue : (text : List ℕ) (year month : ℕ) (b : Bulletin) → read_bu
 unfolding is_issue
 made_issue text year month b e =
     let r = read_back text year month b e in
-    let i = issue_true year month (must_true (is_issue_month year month) wrong_time 0 r.known) in
+    let i = issue_true year month (must_true (is_issue_month year month) WrongTime 0 r.known) in
     lt-ltb b.issue (start_of issue_months)
     (date_before (record { year = year; month = month; stamp = r.stamp }) b.issue (issued_some _ b.issue r.dated) i.to)
 

@@ -4,21 +4,20 @@ use native.Mathlib.Omega.{arith}
 use mathlib.Core.Path.{◌≡◌, refl, sym, ap, ◌∙◌}
 use mathlib.Core.Bool.{Bool, true, false}
 use mathlib.Core.List.{List}
-use Rattle.std.specs.Prelude.{Option, None, Some}
+use Rattle.std.specs.Prelude.{Option, None, Some, Result, Err}
 use lib.ListN.{length, take, get_or}
 use borrow.Author.Tests.{ne_eqb, le-leb}
 use Rattle.laws.proofs.Tests.{apart}
-use Rattle.refusal.specs.Numbers.{wrong_length, not_sound, no_such_segment}
-use Rattle.refusal.specs.Answer.{Answer, ok, no, refused, refusal_for, and_then}
+use Rattle.refusal.specs.declared.Reason.TheVariants.{WrongLength, NotSound, NoSuchSegment}
+use Rattle.refusal.specs.Answer.{Answer, ok, no, refused, refusal_for, and_then, answer_of}
+use Rattle.refusal.specs.declared.Refusal.{Refusal}
 use Rattle.lines.specs.declared.End.{End}
 use Rattle.lines.specs.declared.End.TheVariants.{CrCrLf}
 use Rattle.codes.specs.Places.{capacity}
 use Rattle.codes.specs.Block.{Content}
-use Rattle.writing.specs.Write.{written_block, fitting, write_rule, length_of, output_of, paper_written, Writes}
+use Rattle.writing.specs.Write.{written_block, fitting, write_rule, length_of, output_of, Writes}
 use Rattle.writing.specs.Pen.{written_block_most}
 use Rattle.writing.proofs.Bound.{block_most_lem}
-use Rattle.writing.specs.declared.Written.{Written}
-use Rattle.writing.specs.declared.Written.TheVariants as written
 use Rattle.roundtrip.specs.Round.{ReadsBack}
 use Rattle.lines.specs.Lines.{ends_line}
 use Rattle.roundtrip.proofs.WriteRead.{write_read}
@@ -40,7 +39,7 @@ use Rattle.keeping.proofs.Editing.{fine_places, fine_purge}
 use Rattle.making.specs.Make.{or_no_segment, block_given, content_form, segment_block, write_on, WritesOn}
 
 -- what the rule says gives the promise
-ruled : (l before after : List ℕ) (s : ℕ) (r : Written) (a : Answer (List ℕ)) → write_on l s (length before) ≡ a → paper_written r ≡ length_of a → after ≡ output_of a before
+ruled : (l before after : List ℕ) (s : ℕ) (r : Result ℕ Refusal) (a : Answer (List ℕ)) → write_on l s (length before) ≡ a → answer_of r ≡ length_of a → after ≡ output_of a before
     → WritesOn l before after s r
 ruled l before after s r a e f g = record { answer = f ∙ ap length_of (sym e); output = g ∙ ap (λ (x : Answer (List ℕ)). output_of x before) (sym e) }
 
@@ -101,11 +100,11 @@ unfolding write_rule and_then
 rule_block end room c block e = rw e
 
 -- ---- the rule, at each way out
-rule_short : (l : List ℕ) (s room : ℕ) → (length l ≡ book_length → ⊥) → write_on l s room ≡ refused wrong_length 0
+rule_short : (l : List ℕ) (s room : ℕ) → (length l ≡ book_length → ⊥) → write_on l s room ≡ refused WrongLength 0
 unfolding write_on and_then
 rule_short l s room h = rw (ne_eqb (length l) book_length h)
 
-rule_broken : (l : List ℕ) (s room : ℕ) → length l ≡ book_length → is_sound l ≡ false → write_on l s room ≡ refused not_sound 0
+rule_broken : (l : List ℕ) (s room : ℕ) → length l ≡ book_length → is_sound l ≡ false → write_on l s room ≡ refused NotSound 0
 unfolding write_on and_then
 rule_broken l s room h e = rw (h, e)
 
@@ -116,24 +115,24 @@ rule_sound l s room h e o f = rw (h, e, f)
 
 -- ---- the ways out
 module _ (l before : List ℕ) (s : ℕ) where
-  pub write_short : (length l ≡ book_length → ⊥) → (r : Written) → r ≡ written.Refused (refusal_for wrong_length 0) → WritesOn l before before s r
-  write_short h r e = ruled l before before s r (refused wrong_length 0) (rule_short l s (length before) h) (ap paper_written e) refl
+  pub write_short : (length l ≡ book_length → ⊥) → (r : Refusal) → r ≡ refusal_for WrongLength 0 → WritesOn l before before s (Err r)
+  write_short h r e = ruled l before before s (Err r) (refused WrongLength 0) (rule_short l s (length before) h) (rw e) refl
 
   module _ (h : length l ≡ book_length) where
-    pub write_broken : (b : Bool) → b ≡ is_sound l → b ≡ false → (r : Written) → r ≡ written.Refused (refusal_for not_sound 0) → WritesOn l before before s r
-    write_broken b f g r e = ruled l before before s r (refused not_sound 0) (rule_broken l s (length before) h (sym f ∙ g)) (ap paper_written e) refl
+    pub write_broken : (b : Bool) → b ≡ is_sound l → b ≡ false → (r : Refusal) → r ≡ refusal_for NotSound 0 → WritesOn l before before s (Err r)
+    write_broken b f g r e = ruled l before before s (Err r) (refused NotSound 0) (rule_broken l s (length before) h (sym f ∙ g)) (rw e) refl
 
     module _ (sound : is_sound l ≡ true) where
-      not_there : at (book_of l).segments s ≡ None → (r : Written) → r ≡ written.Refused (refusal_for no_such_segment 0) → WritesOn l before before s r
+      not_there : at (book_of l).segments s ≡ None → (r : Refusal) → r ≡ refusal_for NoSuchSegment 0 → WritesOn l before before s (Err r)
       unfolding and_then
       not_there f r e =
-          ruled l before before s r (refused no_such_segment 0) (rule_sound l s (length before) h sound None (no_block (book_of l) s f)) (ap paper_written e) refl
+          ruled l before before s (Err r) (refused NoSuchSegment 0) (rule_sound l s (length before) h sound None (no_block (book_of l) s f)) (rw e) refl
 
-      pub write_low : s < 1 → (r : Written) → r ≡ written.Refused (refusal_for no_such_segment 0) → WritesOn l before before s r
+      pub write_low : s < 1 → (r : Refusal) → r ≡ refusal_for NoSuchSegment 0 → WritesOn l before before s (Err r)
       write_low g r e = let z : s ≡ 0 = omega arith in not_there (ap (λ (k : ℕ). at (book_of l).segments k) z) r e
 
       module _ (n : ℕ) (m : n ≡ get_or l 4 0) where
-        pub write_far : 1 ≤ s → n < s → (r : Written) → r ≡ written.Refused (refusal_for no_such_segment 0) → WritesOn l before before s r
+        pub write_far : 1 ≤ s → n < s → (r : Refusal) → r ≡ refusal_for NoSuchSegment 0 → WritesOn l before before s (Err r)
         write_far f g r e =
             let z : s ≡ suc (s - 1) = omega arith in
             not_there (ap (λ (k : ℕ). at (book_of l).segments k) z ∙ segment_past l (s - 1) (omega arith)) r e
@@ -160,7 +159,7 @@ module _ (l before : List ℕ) (s : ℕ) where
           here : at (book_of l).segments s ≡ Some (content_of (block_of s l))
           here = ap (λ (k : ℕ). at (book_of l).segments k) z ∙ segment_of_lem l (s - 1) (omega arith) ∙ ap (λ (k : ℕ). Some (content_of (block_of k l))) (sym z)
 
-          pub write_one : Bytes l → (q : Held) → held_content q ≡ content_of (block_of s l) → (after : List ℕ) (r : Written)
+          pub write_one : Bytes l → (q : Held) → held_content q ≡ content_of (block_of s l) → (after : List ℕ) (r : Result ℕ Refusal)
               → Writes before after (take (q.count - 0) q.places) q.purge r → WritesOn l before after s r
           unfolding and_then
           write_one y q e after r w =

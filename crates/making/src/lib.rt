@@ -9,10 +9,8 @@ ghost use Rattle.making.specs.Fill.{contents_from, Filled, Storable, Indexed};
 ghost use Rattle.making.specs.Make.{Makes, WritesOn};
 
 use blocks::BookBytes;
-use bulletin::Reading;
-use refusal::{Refusal, Verdict};
+use refusal::{Reason, Refusal};
 use segments::Segments;
-use writing::Written;
 
 // Fills the blocks of a book whose blocks are all unused: block i + 1 with the content of segment i, whose places are kept from 120 * i on.
 fn fill(book: &mut BookBytes, kept: &[u32], segments: Segments)
@@ -38,51 +36,33 @@ fn write_index(book: &mut BookBytes, issue: usize, n: usize)
     blocks::seal_block(book, 0);
 }
 
-fn wrong(number: usize) -> Verdict
-    ensures { result ≡ Verdict.Refused (record { number = number; place = 0 }) }
-{
-    Verdict::Refused(Refusal { number, place: 0 })
-}
-
 // Makes a book of a bulletin, read under a year and a month. Reading keeps the places, so that each block of the text is read once.
-pub fn make(book: &mut [u8], text: &[u8], year: usize, month: usize) -> Verdict
+pub fn make(book: &mut [u8], text: &[u8], year: usize, month: usize) -> Result<(), Refusal>
     ensures { Makes book.old book.new text.now year month result }
 {
     let Some(book) = book.as_mut_array() else {
-        return wrong(refusal::WRONG_LENGTH);
+        return Err(Reason::WrongLength.into());
     };
     let mut kept: [u32; 960] = [0; 960];
-    let bulletin = bulletin::read_keeping(text, year, month, &mut kept);
+    let bulletin = bulletin::read_keeping(text, year, month, &mut kept)?;
     let segments = bulletin.segments;
-    let reading = bulletin.reading;
-    match reading {
-        Reading::Refused(r) => Verdict::Refused(r),
-        Reading::Accepted(head) => {
-            blocks::clear_book(book);
-            fill(book, &kept, segments);
-            write_index(book, head.issue, segments.count);
-            Verdict::Accepted
-        }
-    }
-}
-
-fn not_written(number: usize) -> Written
-    ensures { result ≡ Written.Refused (record { number = number; place = 0 }) }
-{
-    Written::Refused(Refusal { number, place: 0 })
+    blocks::clear_book(book);
+    fill(book, &kept, segments);
+    write_index(book, bulletin.head.issue, segments.count);
+    Ok(())
 }
 
 // Writes the block of a segment of a sound book.
-fn write_segment(book: &BookBytes, s: usize, out: &mut [u8]) -> Written
+fn write_segment(book: &BookBytes, s: usize, out: &mut [u8]) -> Result<usize, Refusal>
     requires { is_sound book.now ≡ true }
     ensures { WritesOn book.now out.old out.new s result }
 {
     if s < 1 {
-        return not_written(refusal::NO_SUCH_SEGMENT);
+        return Err(Reason::NoSuchSegment.into());
     }
     let n = usize::from(book[4]);
     if n < s {
-        return not_written(refusal::NO_SUCH_SEGMENT);
+        return Err(Reason::NoSuchSegment.into());
     }
     let held = blocks::load(book, s);
     let places = held.places;
@@ -91,15 +71,15 @@ fn write_segment(book: &BookBytes, s: usize, out: &mut [u8]) -> Written
     writing::write_block(out, &places[0..count], minute)
 }
 
-// Writes the block of a segment to the front of out.
-pub fn write(book: &[u8], s: usize, out: &mut [u8]) -> Written
+// Writes the block of a segment to the front of out, and answers its length.
+pub fn write(book: &[u8], s: usize, out: &mut [u8]) -> Result<usize, Refusal>
     ensures { WritesOn book.now out.old out.new s result }
 {
     let Some(book) = book.as_array() else {
-        return not_written(refusal::WRONG_LENGTH);
+        return Err(Reason::WrongLength.into());
     };
-    if layout::is_sound(book) {
-        return write_segment(book, s, out);
+    if !layout::is_sound(book) {
+        return Err(Reason::NotSound.into());
     }
-    not_written(refusal::NOT_SOUND)
+    write_segment(book, s, out)
 }

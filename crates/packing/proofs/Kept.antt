@@ -11,7 +11,8 @@ use lib.Dec.{leb, ltb, eqb}
 use borrow.Author.Tests.{leb-true, ltb-true, ne_eqb}
 use Rattle.laws.proofs.Tests.{impossible, and_left, and_right}
 use Rattle.laws.specs.Lists.{All, all_cons}
-use Rattle.refusal.specs.Numbers.{Reason, number_of}
+use Rattle.refusal.specs.Numbers.{number_of}
+use Rattle.refusal.specs.declared.Reason.{Reason}
 use Rattle.refusal.specs.Answer.{Answer, ok, no, refused}
 use Rattle.refusal.proofs.OneToOne.{number_byte}
 use Rattle.blocks.proofs.Numbers.{low_byte, high_part}

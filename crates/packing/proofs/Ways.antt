@@ -1,29 +1,20 @@
 -- The ways out of packing: what the code puts in a number is the packed answer. Assumes nothing.
-use Rattle.std.specs.Prelude.{Option, None, Some, option_map}
+use Rattle.std.specs.Prelude.{Option, None, Some, Result, Ok, Err, option_map}
 use Prim.Native.Nat.{ℕ, ◌+◌, ◌*◌, ◌-◌, ◌%◌, ◌<◌}
 use native.Mathlib.Omega.{arith}
 use mathlib.Core.Path.{◌≡◌, refl, sym, ap, ◌∙◌}
-use mathlib.Core.Bool.{Bool}
-use Rattle.refusal.specs.Answer.{paper_verdict}
+use Rattle.refusal.specs.Answer.{answer_by, answer_of}
 use Rattle.refusal.specs.declared.Refusal.{Refusal}
-use Rattle.refusal.specs.declared.Verdict.{Verdict}
-use Rattle.refusal.specs.declared.Verdict.TheVariants as verdict
-use Rattle.writing.specs.Write.{paper_written}
-use Rattle.writing.specs.declared.Written.{Written}
-use Rattle.writing.specs.declared.Written.TheVariants as written
 use Rattle.lines.specs.Bytes.{exactly}
 use Rattle.heading.specs.Paper.{paper_bbb, paper_basin, paper_id}
 use Rattle.heading.specs.declared.Basin.{Basin}
 use Rattle.heading.specs.declared.Basin.TheVariants.{Al, Sl, Ep, Cp, Wp}
 use Rattle.heading.specs.declared.Bbb.{Bbb}
 use Rattle.heading.specs.declared.StormId.{StormId}
-use Rattle.layout.specs.Rule.{segments_said, paper_reply}
+use Rattle.layout.specs.Rule.{segments_said}
 use Rattle.layout.specs.declared.Changed.{Changed}
 use Rattle.layout.specs.declared.Changed.TheVariants as changed
-use Rattle.layout.specs.declared.Reply.{Reply}
-use Rattle.layout.specs.declared.Reply.TheVariants as reply
-use Rattle.layout.specs.Layout.{bit}
-use Rattle.packing.specs.Packing.{cell, pack, packed, nothing, plain, spelled, value_bits, rest_end, start_end, size_end, view_bits, bbb_bits, basin_number, name_bits, storm_bits}
+use Rattle.packing.specs.Packing.{cell, pack, PacksBy, spelled, rest_end, start_end, size_end, view_bits, bbb_bits, basin_number, name_bits, storm_bits}
 
 -- the number that the code builds
 pub cell_is : (low rest : ℕ) → low % 256 + 256 * (rest % rest_end) ≡ cell low rest
@@ -105,50 +96,16 @@ pub view_some : (a b : ℕ) → a % start_end + start_end * ((b - a) % size_end)
 unfolding view_bits
 view_some a b = refl
 
--- ---- the answers of the book's calls
-module _ (x : Reply) (r : ℕ) where
-  as_reply : (y : Reply) → x ≡ y → r ≡ packed (paper_reply y) → r ≡ packed (paper_reply x)
-  as_reply y q e = e ∙ ap (λ (z : Reply). packed (paper_reply z)) (sym q)
+-- ---- an answer, whose value's bits are known
+pub packs : {T A : Type 0} (f : A → ℕ) (said : T → A) (bits : T → ℕ → Type 0) (answer : Result T Refusal) (r : ℕ) → PacksBy bits answer r
+    → ((x : T) (n : ℕ) → answer ≡ Ok x → bits x n → n ≡ f (said x)) → r ≡ pack f (answer_by said answer)
+unfolding pack
+packs f said bits (Ok x) r p known = p.2 ∙ ap (cell 0) (known x p.0 refl p.1)
+packs f said bits (Err w) r p known = p
 
-  pub reply_draft : (d : ℕ) → x ≡ reply.Draft d → r ≡ cell 0 d → r ≡ packed (paper_reply x)
-  unfolding pack value_bits
-  reply_draft d q e = as_reply (reply.Draft d) q e
-
-  pub reply_done : x ≡ reply.Done → r ≡ cell 0 0 → r ≡ packed (paper_reply x)
-  unfolding pack value_bits
-  reply_done q e = as_reply reply.Done q e
-
-  pub reply_number : (n : ℕ) → x ≡ reply.Number n → r ≡ cell 0 n → r ≡ packed (paper_reply x)
-  unfolding pack value_bits
-  reply_number n q e = as_reply (reply.Number n) q e
-
-  pub reply_was : (t : Bool) → x ≡ reply.Was t → (n : ℕ) → n ≡ bit t → r ≡ cell 0 n → r ≡ packed (paper_reply x)
-  unfolding pack value_bits
-  reply_was t q n en e = as_reply (reply.Was t) q (e ∙ ap (cell 0) en)
-
-  pub reply_segments : (c : Changed) → x ≡ reply.Segments c → (n : ℕ) → n ≡ spelled (segments_said c) → r ≡ cell 0 n → r ≡ packed (paper_reply x)
-  unfolding pack value_bits
-  reply_segments c q n en e = as_reply (reply.Segments c) q (e ∙ ap (cell 0) en)
-
-  pub reply_refused : (y : Refusal) → x ≡ reply.Refused y → r ≡ cell y.number y.place → r ≡ packed (paper_reply x)
-  unfolding pack value_bits
-  reply_refused y q e = as_reply (reply.Refused y) q e
-
--- ---- the answers without a value, and the writer's
-module _ (v : Verdict) (r : ℕ) where
-  pub verdict_ok : v ≡ verdict.Accepted → r ≡ cell 0 0 → r ≡ pack nothing (paper_verdict v)
-  unfolding pack
-  verdict_ok q e = e ∙ ap (λ (x : Verdict). pack nothing (paper_verdict x)) (sym q)
-
-  pub verdict_no : (y : Refusal) → v ≡ verdict.Refused y → r ≡ cell y.number y.place → r ≡ pack nothing (paper_verdict v)
-  unfolding pack
-  verdict_no y q e = e ∙ ap (λ (x : Verdict). pack nothing (paper_verdict x)) (sym q)
-
-module _ (w : Written) (r : ℕ) where
-  pub written_ok : (n : ℕ) → w ≡ written.Length n → r ≡ cell 0 n → r ≡ pack plain (paper_written w)
-  unfolding pack
-  written_ok n q e = e ∙ ap (λ (x : Written). pack plain (paper_written x)) (sym q)
-
-  pub written_no : (y : Refusal) → w ≡ written.Refused y → r ≡ cell y.number y.place → r ≡ pack plain (paper_written w)
-  unfolding pack
-  written_no y q e = e ∙ ap (λ (x : Written). pack plain (paper_written x)) (sym q)
+-- one whose value is the paper's own
+pub packs_it : {A : Type 0} (f : A → ℕ) (bits : A → ℕ → Type 0) (answer : Result A Refusal) (r : ℕ) → PacksBy bits answer r
+    → ((x : A) (n : ℕ) → answer ≡ Ok x → bits x n → n ≡ f x) → r ≡ pack f (answer_of answer)
+unfolding pack
+packs_it f bits (Ok x) r p known = p.2 ∙ ap (cell 0) (known x p.0 refl p.1)
+packs_it f bits (Err w) r p known = p

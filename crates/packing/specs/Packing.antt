@@ -1,6 +1,8 @@
 -- An answer as one number of 64 bits, and the way back. The number's low byte is 0, and the rest is the value; or it is the refusal's number, and the rest is the place.
 use Rattle.std.specs.Prelude.{ℕ, zero, suc, ◌+◌, ◌-◌, ◌*◌, ◌/◌, ◌%◌, cond, List, [], ◌∷◌, eqb}
-use Rattle.std.specs.Prelude.{Option, None, Some}
+use Rattle.std.specs.Prelude.{Option, None, Some, Result, Ok, Err, ◌≡◌}
+use Rattle.refusal.specs.Numbers.{number_of}
+use Rattle.refusal.specs.declared.Refusal.{Refusal}
 use Prim.Native.String.{String}
 use Rattle.refusal.specs.Answer.{Answer, ok, no}
 use Rattle.lines.specs.Bytes.{bytes, word, exactly}
@@ -21,6 +23,11 @@ cell low rest = low % 256 + 256 * (rest % rest_end)
 unfoldable pub pack : {A : Type 0} → (A → ℕ) → Answer A → ℕ
 pack bits (ok x) = cell 0 (bits x)
 pack bits (no reason place) = cell reason place
+
+-- what the code's answer becomes, where `bits` says which numbers its value may give
+abbrev pub PacksBy : {T : Type 0} → (T → ℕ → Type 0) → Result T Refusal → ℕ → Type 0
+PacksBy bits (Ok x) r = (n : ℕ) × bits x n × (r ≡ cell 0 n)
+PacksBy bits (Err w) r = r ≡ cell (number_of w.reason) w.place
 
 unfoldable pub unpack : {A : Type 0} → (ℕ → A) → ℕ → Answer A
 unpack value r = cond (eqb (r % 256) 0) (ok (value (r / 256))) (no (r % 256) (r / 256))

@@ -2,17 +2,15 @@
 #![tactic(auto)]
 
 ghost use Rattle.std.specs.Prelude.{◌≡◌, option_map, ◌-◌, ◌%◌, ◌≤◌, ◌<◌};
-ghost use Rattle.refusal.specs.Answer.{paper_verdict};
-ghost use Rattle.writing.specs.Write.{paper_written};
+ghost use Rattle.refusal.specs.Answer.{answer_by, answer_of};
 ghost use Rattle.layout.specs.Layout as layouts;
-ghost use Rattle.layout.specs.Rule.{segments_said, paper_reply};
+ghost use Rattle.layout.specs.Rule.{segments_said, value_said};
 ghost use Rattle.heading.specs.Paper.{paper_bbb, paper_basin, paper_class, paper_id};
-ghost use Rattle.packing.specs.Packing.{cell, pack, packed, nothing, plain, spelled, bbb_bits, basin_number, class_number, name_bits, storm_bits, view_bits};
+ghost use Rattle.packing.specs.Packing.{cell, pack, PacksBy, value_bits, packed, nothing, plain, spelled, bbb_bits, basin_number, class_number, name_bits, storm_bits, view_bits};
 
 use heading::{Basin, Bbb, Class, StormId};
 use layout::{Changed, Reply};
-use refusal::Verdict;
-use writing::Written;
+use refusal::Refusal;
 
 // The low byte, and the rest.
 pub fn cell(low: usize, rest: usize) -> u64
@@ -38,38 +36,49 @@ fn bit(there: bool) -> usize
     if there { 1 } else { 0 }
 }
 
-// The answer of a call on a book.
-pub fn pack_reply(reply: Reply) -> u64
-    ensures { result ≡ packed (paper_reply reply) }
+// The answer of a call, whose value has these bits.
+pub fn pack<T, F: FnOnce(T) -> usize>(answer: Result<T, Refusal>, bits: F) -> u64
+    requires { F.IsAlwaysCallable bits }
+    ensures { PacksBy (F.post bits) answer result }
+{
+    match answer {
+        Ok(value) => cell(0, bits(value)),
+        Err(r) => cell(r.reason.number(), r.place),
+    }
+}
+
+// The value of a call on a book.
+fn reply_bits(reply: Reply) -> usize
+    ensures { result ≡ value_bits (value_said reply) }
 {
     match reply {
-        Reply::Draft(d) => cell(0, d),
-        Reply::Done => cell(0, 0),
-        Reply::Number(n) => cell(0, n),
-        Reply::Was(there) => cell(0, bit(there)),
-        Reply::Segments(changed) => cell(0, spell(changed)),
-        Reply::Refused(r) => cell(r.number, r.place),
+        Reply::Draft(d) => d,
+        Reply::Done => 0,
+        Reply::Number(n) => n,
+        Reply::Was(there) => bit(there),
+        Reply::Segments(changed) => spell(changed),
     }
+}
+
+// The answer of a call on a book.
+pub fn pack_reply(reply: Result<Reply, Refusal>) -> u64
+    ensures { result ≡ packed (answer_by value_said reply) }
+{
+    pack(reply, |r| reply_bits(r))
 }
 
 // The answer of a call that gives no value.
-pub fn pack_verdict(verdict: Verdict) -> u64
-    ensures { result ≡ pack nothing (paper_verdict verdict) }
+pub fn pack_verdict(verdict: Result<(), Refusal>) -> u64
+    ensures { result ≡ pack nothing (answer_of verdict) }
 {
-    match verdict {
-        Verdict::Accepted => cell(0, 0),
-        Verdict::Refused(r) => cell(r.number, r.place),
-    }
+    pack(verdict, |_| 0)
 }
 
 // The answer of a call that writes: a length.
-pub fn pack_written(written: Written) -> u64
-    ensures { result ≡ pack plain (paper_written written) }
+pub fn pack_written(written: Result<usize, Refusal>) -> u64
+    ensures { result ≡ pack plain (answer_of written) }
 {
-    match written {
-        Written::Length(n) => cell(0, n),
-        Written::Refused(r) => cell(r.number, r.place),
-    }
+    pack(written, |n| n)
 }
 
 fn byte(b: u8) -> usize

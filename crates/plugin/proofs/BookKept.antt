@@ -10,7 +10,8 @@ use Rattle.std.specs.Prelude.{slice_get}
 use lib.Dec.{ltb, eqb}
 use Rattle.laws.proofs.Tests.{apart}
 use Rattle.laws.specs.Lists.{All, all_nil, all_cons}
-use Rattle.refusal.specs.Numbers.{Reason, wrong_length, wrong_time, not_sound, no_draft, all_open, no_such_segment, not_taken, taken_already, two_taken, segment_full, only_place, stale_draft, no_step, out_of_range}
+use Rattle.refusal.specs.declared.Reason.{Reason}
+use Rattle.refusal.specs.declared.Reason.TheVariants.{WrongLength, WrongTime, NotSound, NoDraft, AllOpen, NoSuchSegment, NotTaken, TakenAlready, TwoTaken, SegmentFull, OnlyPlace, StaleDraft, NoStep, OutOfRange}
 use Rattle.refusal.specs.Answer.{Answer, refused}
 use Rattle.calendar.specs.Purge.{purge_of}
 use Rattle.calendar.proofs.Laws.{purge_low}
@@ -58,7 +59,7 @@ unfolding value_bits
 number_back n h = record { low = omega arith; same = refl }
 
 pub place_kept : (ps : List ℕ) (i : ℕ) → Ascending 0 ps → (o : Option ℕ) → slice_get ps i ≡ o → Kept value_bits number (place_at o)
-place_kept ps i a None e = refusal_kept number out_of_range
+place_kept ps i a None e = refusal_kept number OutOfRange
 place_kept ps i a (Some p) e = let q = number_back p (omega (arith, place_end i p a e)) in kept_ok (number p) q.low q.same
 
 abbrev found : ℕ → Value
@@ -74,17 +75,17 @@ unfolding edit_rule
 edit_back issue read_purge c f = told_ok _ (number_back c.purge (omega (arith, purge_32 issue c.purge (fine_purge issue c f))))
 edit_back issue read_count c f = told_ok _ (number_back (length c.places) (omega (arith, (set_true c.places (fine_places issue c f)).few)))
 edit_back issue (read_place i) c f =
-    told_find (slice_get c.places i) out_of_range _
+    told_find (slice_get c.places i) OutOfRange _
     (λ p e. told_ok _ (number_back p (omega (arith, place_end i p (set_true c.places (fine_places issue c f)).up e))))
 edit_back issue (add p) c f =
     told_cond (member p c.places) _ _
     (λ t. told_ok _ (was_back true))
-    (λ t. told_must (ltb (length c.places) capacity) segment_full _ (λ u. told_ok _ (was_back false)))
+    (λ t. told_must (ltb (length c.places) capacity) SegmentFull _ (λ u. told_ok _ (was_back false)))
 edit_back issue (remove p) c f =
     told_cond (member p c.places) _ _
-    (λ t. told_must (not (eqb (length c.places) 1)) only_place _ (λ u. told_ok _ (was_back true)))
+    (λ t. told_must (not (eqb (length c.places) 1)) OnlyPlace _ (λ u. told_ok _ (was_back true)))
     (λ t. told_ok _ (was_back false))
-edit_back issue (set_purge s) c f = told_find (purge_of issue s) wrong_time _ (λ m e. told_ok _ (number_back m (omega (arith, purge_low issue s m e))))
+edit_back issue (set_purge s) c f = told_find (purge_of issue s) WrongTime _ (λ m e. told_ok _ (number_back m (omega (arith, purge_low issue s m e))))
 
 -- ---- the work of a draft
 abbrev finished : ℕ → Value
@@ -96,9 +97,9 @@ done_back = record { low = omega arith; same = refl }
 
 work_back : (issue n s : ℕ) (c : Content) (w : Work) (ks : List Copy) → All (FineCopy issue n) ks → Told (Back (work_value w)) (work_rule issue s c w ks)
 unfolding work_rule
-work_back issue n s c taking ks f = told_must (not (has s ks)) taken_already _ (λ t. told_must (ltb (length ks) 2) two_taken _ (λ u. told_ok _ done_back))
+work_back issue n s c taking ks f = told_must (not (has s ks)) TakenAlready _ (λ t. told_must (ltb (length ks) 2) TwoTaken _ (λ u. told_ok _ done_back))
 work_back issue n s c (editing e) ks f =
-    told_find (copy_of s ks) not_taken _ (λ k q. told_then (edit_rule issue e k) _ (edit_back issue e k (copy_fine issue n s ks k f q)) (λ z r. told_ok _ r))
+    told_find (copy_of s ks) NotTaken _ (λ k q. told_then (edit_rule issue e k) _ (edit_back issue e k (copy_fine issue n s ks k f q)) (λ z r. told_ok _ r))
 
 -- ---- the segments of a commit or an undo
 numbers_bytes : (issue n : ℕ) {ks : List Copy} → n ≤ 8 → All (FineCopy issue n) ks → All Byte (segments_named ks)
@@ -123,19 +124,19 @@ draft_back d h = record { low = omega arith; same = refl }
 
 rule_back : (b : Book) (c : Call) → Sound b → Told (Back (value_of c)) (book_rule b c)
 unfolding book_rule value_of
-rule_back b opening h = told_find (lowest 1 b.drafts) all_open _ (λ d e. told_ok _ (draft_back d (omega (arith, lowest_end 1 d b.drafts e, h.four))))
+rule_back b opening h = told_find (lowest 1 b.drafts) AllOpen _ (λ d e. told_ok _ (draft_back d (omega (arith, lowest_end 1 d b.drafts e, h.four))))
 rule_back b (on d s w) h =
-    told_find (open_draft (draft_at b.drafts d)) no_draft _ (λ x e. told_must (in_range w) out_of_range _ (λ r. told_find (at b.segments s) no_such_segment _
+    told_find (open_draft (draft_at b.drafts d)) NoDraft _ (λ x e. told_must (in_range w) OutOfRange _ (λ r. told_find (at b.segments s) NoSuchSegment _
     (λ c g. told_then (work_rule b.issue s c w x.copies) _
     (work_back b.issue (length b.segments) s c w x.copies (open_fine (draft_fine b d h) e).copies) (λ z q. told_ok _ q))))
 rule_back b (commit d) h =
-    told_find (open_draft (draft_at b.drafts d)) no_draft _ (λ x e. told_must (not x.stale) stale_draft _
+    told_find (open_draft (draft_at b.drafts d)) NoDraft _ (λ x e. told_must (not x.stale) StaleDraft _
     (λ t. told_ok _
     (let c = changes_fine b.issue (length b.segments) b.segments x.copies x.stale (open_fine (draft_fine b d h) e) in
     numbers_back b.issue (length b.segments) (changes b.segments x.copies) h.eight c.copies c.two)))
-rule_back b (drop d) h = told_find (open_draft (draft_at b.drafts d)) no_draft _ (λ x e. told_ok _ done_back)
+rule_back b (drop d) h = told_find (open_draft (draft_at b.drafts d)) NoDraft _ (λ x e. told_ok _ done_back)
 rule_back b undo h =
-    told_find (newest b.history.kept) no_step _ (λ cs e. told_ok _
+    told_find (newest b.history.kept) NoStep _ (λ cs e. told_ok _
     (let f = newest_fine b.issue (length b.segments) b.history cs h.past e in
     numbers_back b.issue (length b.segments) cs h.eight f.copies f.two))
 
@@ -143,7 +144,7 @@ rule_back b undo h =
 bytes_back : (l : List ℕ) (c : Call) → Bytes l → Told (Back (value_of c)) (bytes_rule l c)
 unfolding bytes_rule
 bytes_back l c y =
-    told_must (eqb (length l) book_length) wrong_length _ (λ t. told_must (is_sound l) not_sound _
+    told_must (eqb (length l) book_length) WrongLength _ (λ t. told_must (is_sound l) NotSound _
     (λ e. told_then (book_rule (book_of l) c) _ (rule_back (book_of l) c (sound_book l y e)) (λ z q. told_ok _ q)))
 
 -- every answer of every call on every book is found again in its number

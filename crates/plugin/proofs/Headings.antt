@@ -12,7 +12,7 @@ use borrow.Author.Tests.{leb-true, eqb-true}
 use Rattle.laws.proofs.Tests.{by, apart, impossible, either_way, and_left, and_right}
 use Rattle.laws.proofs.Lists.{all_append, all_map, all_drop}
 use Rattle.laws.specs.Lists.{All, all_nil, all_cons}
-use Rattle.refusal.specs.Numbers.{wrong_heading, wrong_identifier, wrong_storm}
+use Rattle.refusal.specs.declared.Reason.TheVariants.{WrongHeading, WrongIdentifier, WrongStorm}
 use Rattle.lines.specs.Bytes.{Kind, between, capital, digit, is, word, begins, exactly}
 use Rattle.lines.specs.Lines.{Line, blank}
 use Rattle.lines.proofs.Strings.{exactly_is}
@@ -135,17 +135,17 @@ unfolding heading_of
 headed_low n s =
     by (is_heading s)
     (λ t. rw t (low_ok _ (heading_marked s t)))
-    (λ t. rw t (low_refused n MarkedOn wrong_heading 0 (omega arith)))
+    (λ t. rw t (low_refused n MarkedOn WrongHeading 0 (omega arith)))
 
 pub line1_low : (n : ℕ) (ls : List Line) → Low n (λ (h : Heading). Marked h.bbb) (line1 ls)
-line1_low n [] = low_refused n MarkedOn wrong_heading 0 (omega arith)
+line1_low n [] = low_refused n MarkedOn WrongHeading 0 (omega arith)
 line1_low n (l ∷ ls) = headed_low n l.body
 
 -- ---- the identifier
 pub line2_low : (n stop : ℕ) → stop ≤ n → {ls : List Line} → All (Within n) ls → Low n (λ (at : ℕ). at ≤ n) (line2 stop ls)
-line2_low n stop h all_nil = low_refused n (λ (at : ℕ). at ≤ n) wrong_identifier stop h
+line2_low n stop h all_nil = low_refused n (λ (at : ℕ). at ≤ n) WrongIdentifier stop h
 line2_low n stop h (all_cons {x = l} f a) =
-    either_way (Low n (λ (at : ℕ). at ≤ n)) (is_identifier l.body) (low_ok l.start f.start) (low_refused n (λ (at : ℕ). at ≤ n) wrong_identifier l.start f.start)
+    either_way (Low n (λ (at : ℕ). at ≤ n)) (is_identifier l.body) (low_ok l.start f.start) (low_refused n (λ (at : ℕ). at ≤ n) WrongIdentifier l.start f.start)
 
 -- ---- the storm
 class_most : (k : ℕ) (c : ClassName) → class_of k ≡ Some c → k ≤ 99
@@ -211,7 +211,7 @@ storm_small s x e =
 said_low : (n : ℕ) (l : Line) → Within n l → (x : StormSaid) → storm_of l.body ≡ x → Low n Small (storm_said l x)
 said_low n l f storms.no_storm e = low_ok None small_none
 said_low n l f (storms.storm name) e = low_ok (Some name) (storm_small l.body name e)
-said_low n l f storms.refused_storm e = low_refused n Small wrong_storm (l.start + (length l.body - 8)) (omega (arith, f.start, f.end))
+said_low n l f storms.refused_storm e = low_refused n Small WrongStorm (l.start + (length l.body - 8)) (omega (arith, f.start, f.end))
 
 office_low : (n : ℕ) {ls : List Line} → All (Within n) ls → Low n Small (office_storm ls)
 office_low n all_nil = low_ok None small_none

@@ -12,7 +12,7 @@ use borrow.Author.Tests.{leb-true}
 use Rattle.laws.proofs.Tests.{apart, by, either_way, and_right}
 use Rattle.laws.proofs.Lists.{all_each}
 use Rattle.laws.specs.Lists.{All, all_nil, all_cons}
-use Rattle.refusal.specs.Numbers.{wrong_length, wrong_time, not_sound, no_such_segment, out_of_range, output_short, not_belonging}
+use Rattle.refusal.specs.declared.Reason.TheVariants.{WrongLength, WrongTime, NotSound, NoSuchSegment, OutOfRange, OutputShort, NotBelonging}
 use Rattle.refusal.specs.Answer.{Answer, ok, no, must, and_then}
 use Rattle.lines.specs.Lines.{lines_of}
 use Rattle.calendar.specs.Calendar.{is_issue_month, minute_of, date_of}
@@ -71,7 +71,7 @@ bounded : (h : Heading) (at issue : ℕ) (s : Option StormName) (gs : List segme
 bounded h at issue s gs m i small a = record { marked = m; identifier = i; storm = small; segments = a }
 
 issued_low : (o : Option ℕ) → Low text_most Any (issued o)
-issued_low None = low_refused text_most Any wrong_time 0 (omega arith)
+issued_low None = low_refused text_most Any WrongTime 0 (omega arith)
 issued_low (Some m) = low_ok m tt
 
 length_most : (text : List ℕ) → is_length text ≡ true → length text ≤ text_most
@@ -97,8 +97,8 @@ read_low text year month =
     (line2_low text_most (length text) fits (later_within lines)))
     (line1_low text_most (lines_of text)))
     (check_low text text_most fits))
-    (low_must text_most (is_issue_month year month) wrong_time))
-    (low_must text_most (is_length text) wrong_length)
+    (low_must text_most (is_issue_month year month) WrongTime))
+    (low_must text_most (is_length text) WrongLength)
 
 -- ---- a part of an answer
 low_kept : {A B : Type 0} (part : A → B) (bits : B → ℕ) (value : ℕ → B) (P : A → Type 0) → ((x : A) → P x → Returns bits value (part x))
@@ -191,8 +191,8 @@ module _ (text : List ℕ) (year month : ℕ) where
 -- ---- of a segment
 numbered_low : (n : ℕ) (gs : List Segment) → All Fits gs → Low text_most Fits (numbered n gs)
 unfolding numbered
-numbered_low n [] a = low_refused text_most Fits no_such_segment 0 (omega arith)
-numbered_low zero (g ∷ gs) a = low_refused text_most Fits no_such_segment 0 (omega arith)
+numbered_low n [] a = low_refused text_most Fits NoSuchSegment 0 (omega arith)
+numbered_low zero (g ∷ gs) a = low_refused text_most Fits NoSuchSegment 0 (omega arith)
 numbered_low (suc zero) (g ∷ gs) (all_cons f a) = low_ok g f
 numbered_low (suc (suc n)) (g ∷ gs) (all_cons f a) = numbered_low (suc n) gs a
 
@@ -232,7 +232,7 @@ module _ (text : List ℕ) (year month n i : ℕ) where
   contents_fine b e = all_each (λ (g : segments.Segment). g.content) (λ g f. f) (made_fine text year month b e)
 
   place_of : (issue : ℕ) (o : Option codes.Content) → ((c : codes.Content) → o ≡ Some c → Fine issue c) → Kept value_bits number (place_answer i (or_no_segment o))
-  place_of issue None f = refused_kept value_bits number no_such_segment 0 (omega arith)
+  place_of issue None f = refused_kept value_bits number NoSuchSegment 0 (omega arith)
   place_of issue (Some c) f = place_kept c.places i (set_true c.places (fine_places issue c (f c refl))).up (slice_get c.places i) refl
 
   place_in_lem : (a : Answer Bulletin) → read_bulletin text year month ≡ a → Low text_most Bounded a
@@ -255,7 +255,7 @@ module _ (l text : List ℕ) (year month : ℕ) where
   unfolding make_rule
   make_low =
       low_then _ (λ _ _. low_then _ (λ b _. low_ok (book_from b) tt) (read_low text year month))
-      (low_must text_most (eqb (length l) book_length) wrong_length)
+      (low_must text_most (eqb (length l) book_length) WrongLength)
 
   pub make_back : unpack no_value (pack nothing (made_answer (make_rule l text year month))) ≡ made_answer (make_rule l text year month)
   make_back = back nothing no_value (made_answer (make_rule l text year month)) (made_kept (make_rule l text year month) make_low)
@@ -269,7 +269,7 @@ written_kept (ok _) (low_ok block k) = kept_ok (length block) (omega arith) refl
 written_kept (no _ _) (low_no reason place one most k) = kept_no {reason = reason} {place = place} one most (omega arith)
 
 dated_low : (ps : List ℕ) → is_set ps ≡ true → (o : Option Date) → Low text_most Short (dated_block CrCrLf ps o)
-dated_low ps t None = low_refused text_most Short out_of_range 0 (omega arith)
+dated_low ps t None = low_refused text_most Short OutOfRange 0 (omega arith)
 dated_low ps t (Some d) = low_ok _ (written_most_lem CrCrLf ps d.stamp t)
 
 block_low : (ps : List ℕ) (minute : ℕ) → Low text_most Short (written_block CrCrLf ps minute)
@@ -277,11 +277,11 @@ unfolding written_block
 block_low ps minute =
     by (is_set ps)
     (λ t. rw t (dated_low ps t (date_of minute)))
-    (λ t. rw t (low_refused text_most Short out_of_range 0 (omega arith)))
+    (λ t. rw t (low_refused text_most Short OutOfRange 0 (omega arith)))
 
 fitting_low : (room : ℕ) (block : List ℕ) → Short block → Low text_most Short (fitting room block)
 unfolding fitting
-fitting_low room block k = either_way (Low text_most Short) (leb (length block) room) (low_ok block k) (low_refused text_most Short output_short 0 (omega arith))
+fitting_low room block k = either_way (Low text_most Short) (leb (length block) room) (low_ok block k) (low_refused text_most Short OutputShort 0 (omega arith))
 
 module _ (room : ℕ) where
   rule_low : (ps : List ℕ) (minute : ℕ) → Low text_most Short (write_rule CrCrLf room ps minute)
@@ -295,7 +295,7 @@ module _ (room : ℕ) where
   segment_low b s = go (segment_block b s) refl
     where
       go : (o : Option (List ℕ)) → segment_block b s ≡ o → Low text_most Short (or_no_segment o)
-      go None q = low_refused text_most Short no_such_segment 0 (omega arith)
+      go None q = low_refused text_most Short NoSuchSegment 0 (omega arith)
       go (Some block) q = low_ok block (segment_most b s block q)
 
   write_low : (l : List ℕ) (s : ℕ) → Low text_most Short (write_on l s room)
@@ -304,8 +304,8 @@ module _ (room : ℕ) where
       low_then _ (λ _ _.
       low_then _ (λ _ _.
       low_then (fitting room) (λ block k. fitting_low room block k) (segment_low (book_of l) s))
-      (low_must text_most (is_sound l) not_sound))
-      (low_must text_most (eqb (length l) book_length) wrong_length)
+      (low_must text_most (is_sound l) NotSound))
+      (low_must text_most (eqb (length l) book_length) WrongLength)
 
   pub write_back : (l : List ℕ) (s : ℕ) → unpack plain (pack plain (length_of (write_on l s room))) ≡ length_of (write_on l s room)
   write_back l s = back plain plain (length_of (write_on l s room)) (written_kept (write_on l s room) (write_low l s))
@@ -313,7 +313,7 @@ module _ (room : ℕ) where
 -- ---- a text that reads has at most 16,384 bytes
 text_short : (text : List ℕ) (year month : ℕ) (b : Bulletin) → read_bulletin text year month ≡ ok b → length text ≤ text_most
 unfolding read_bulletin
-text_short text year month b = by_then (must (is_length text) wrong_length 0) _ b λ _ t _. length_most text (must_true (is_length text) wrong_length 0 t)
+text_short text year month b = by_then (must (is_length text) WrongLength 0) _ b λ _ t _. length_most text (must_true (is_length text) WrongLength 0 t)
 
 -- ---- the edited bulletin, of bytes that are lent as a book
 unread_kept : (why place : ℕ) (a : Answer Bulletin) → Low text_most Bounded a → a ≡ no why place → Kept plain plain (no why place)
@@ -325,12 +325,12 @@ unread_kept why place (no _ _) (low_no n p one most h) e =
     rw (← ns, ← ps) (kept_no {reason = n} {place = p} one most (omega arith))
 
 edited_kept : (text l : List ℕ) (room : ℕ) → Bytes l → (a : Answer (List ℕ)) → EditedAnswer text l room a → edited_rule text l room ≡ a → Kept plain plain (length_of a)
-edited_kept text l room y _ (other_length t) e = refused_kept plain plain wrong_length 0 (omega arith)
-edited_kept text l room y _ (unsound t) e = refused_kept plain plain not_sound 0 (omega arith)
+edited_kept text l room y _ (other_length t) e = refused_kept plain plain WrongLength 0 (omega arith)
+edited_kept text l room y _ (unsound t) e = refused_kept plain plain NotSound 0 (omega arith)
 edited_kept text l room y _ (unreadable d why place t f) e =
     unread_kept why place (read_bulletin text d.year d.month) (read_low text d.year d.month) f
-edited_kept text l room y _ (stranger d r t f g) e = refused_kept plain plain not_belonging 0 (omega arith)
-edited_kept text l room y _ (no_room out w h) e = refused_kept plain plain output_short 0 (omega arith)
+edited_kept text l room y _ (stranger d r t f g) e = refused_kept plain plain NotBelonging 0 (omega arith)
+edited_kept text l room y _ (no_room out w h) e = refused_kept plain plain OutputShort 0 (omega arith)
 edited_kept text l room y _ (written_out out w h) e =
     let most = edited_most text l room out y e in
     kept_ok (length out) (omega (arith, most, text_short text w.date.year w.date.month w.read w.reads)) refl

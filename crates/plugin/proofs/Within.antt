@@ -12,7 +12,8 @@ use borrow.Author.Tests.{ltb-true}
 use Rattle.laws.proofs.Tests.{by, apart, either_way}
 use Rattle.laws.proofs.Lists.{all_append}
 use Rattle.laws.specs.Lists.{All, all_nil, all_cons}
-use Rattle.refusal.specs.Numbers.{Reason, wrong_text, wrong_time, wrong_block, no_segment, no_end, ninth_segment, too_many_places, place_twice}
+use Rattle.refusal.specs.declared.Reason.{Reason}
+use Rattle.refusal.specs.declared.Reason.TheVariants.{WrongText, WrongTime, WrongBlock, NoSegment, NoEnd, NinthSegment, TooManyPlaces, PlaceTwice}
 use Rattle.refusal.specs.Answer.{Answer, ok, no, refused, refused_at, must, and_then}
 use Rattle.lines.specs.Bytes.{lf}
 use Rattle.lines.specs.declared.End.{End}
@@ -220,7 +221,7 @@ unended_in text n fits p e =
 pub check_low : (text : List ℕ) (n : ℕ) → length text ≤ n → Low n Any (check_text text)
 unfolding check_text text_fault
 check_low text n fits =
-    at_low n wrong_text (least (bad_byte 0 text) (least (long_line (lines_of text)) (unended text)))
+    at_low n WrongText (least (bad_byte 0 text) (least (long_line (lines_of text)) (unended text)))
     (least_in n (bad_byte 0 text) (least (long_line (lines_of text)) (unended text)) (λ p e. bad_in n 0 text p (omega arith) e)
     (least_in n (long_line (lines_of text)) (unended text) (λ p e. long_in n p (text_within text n fits) e) (unended_in text n fits)))
 
@@ -239,17 +240,17 @@ lies n start after past end c a b d = record { start = a; block = b; past = d }
 
 module _ (n start : ℕ) (h : start ≤ n) where
   dated_low : (at : ℕ) (ps : List ℕ) (o : Option ℕ) → at ≤ n → Low n Any (dated start at ps o)
-  dated_low at ps None k = low_refused n Any wrong_time at k
+  dated_low at ps None k = low_refused n Any WrongTime at k
   dated_low at ps (Some t) k =
-      either_way (Low n Any) (leb (length ps) capacity) (low_ok (record { purge = t; places = ps }) tt) (low_refused n Any too_many_places start h)
+      either_way (Low n Any) (leb (length ps) capacity) (low_ok (record { purge = t; places = ps }) tt) (low_refused n Any TooManyPlaces start h)
 
   content_in_lem : (issue : ℕ) (w : Option ℕ) (r : Read) → ((y : ℕ) → w ≡ Some y → y ≤ n) → last_of r ≤ n → Low n Any (content_in issue start w r)
-  content_in_lem issue w (wrong_at place) g k = low_refused n Any wrong_block place k
-  content_in_lem issue (Some y) (block ps s at) g k = low_refused n Any place_twice y (g y refl)
+  content_in_lem issue w (wrong_at place) g k = low_refused n Any WrongBlock place k
+  content_in_lem issue (Some y) (block ps s at) g k = low_refused n Any PlaceTwice y (g y refl)
   content_in_lem issue None (block ps s at) g k = dated_low at ps (purge_of issue s) k
 
   purge_low : (r : Read) → last_of r ≤ n → Low n Any (purge_place r)
-  purge_low (wrong_at place) k = low_refused n Any wrong_block place k
+  purge_low (wrong_at place) k = low_refused n Any WrongBlock place k
   purge_low (block ps s at) k = low_ok at tt
 
 module _ (text : List ℕ) (n : ℕ) (fits : length text ≤ n) where
@@ -287,7 +288,7 @@ module _ (text : List ℕ) (n : ℕ) (fits : length text ≤ n) where
 
   ended_low : (next : List Line → Answer (List Segment)) → Next next → (l : Line) (past : ℕ) (c : Content) → l.start ≤ length text → past ≤ length text → (ls : List Line) → All Starts ls
       → LowSegments n (runs_to l past c next ls)
-  ended_low next i l past c f k [] a = low_refused n (All (Lies n)) no_end l.start (omega arith)
+  ended_low next i l past c f k [] a = low_refused n (All (Lies n)) NoEnd l.start (omega arith)
   ended_low next i l past c f k (e ∷ ls) (all_cons g a) =
       low_then _ (λ ss p. low_ok _ (all_cons (lies n l.start past e.next l.ended c (omega arith) (omega arith) (omega (arith, g.next))) p)) (i ls a)
 
@@ -300,7 +301,7 @@ module _ (text : List ℕ) (n : ℕ) (fits : length text ≤ n) where
 
   ninth_low : (ls : List Line) → All Starts ls → LowSegments n (ninth ls)
   ninth_low [] a = low_ok [] all_nil
-  ninth_low (l ∷ ls) (all_cons f a) = low_refused n (All (Lies n)) ninth_segment l.start (omega (arith, f.start))
+  ninth_low (l ∷ ls) (all_cons f a) = low_refused n (All (Lies n)) NinthSegment l.start (omega (arith, f.start))
 
   segments_low : (k issue : ℕ) → Next (segments_from k text issue)
   unfolding segments_from
@@ -308,13 +309,13 @@ module _ (text : List ℕ) (n : ℕ) (fits : length text ≤ n) where
   segments_low (suc k) issue ls a = opened_low issue (segments_from k text issue) (segments_low k issue) (from_first opens ls) (from_within opens a)
 
   line3_low : (past : List Line) → All Starts past → (ls : List Line) → All Starts ls → Low n (All Starts) (from_line3 past (length text) ls)
-  line3_low past p [] a = low_refused n (All Starts) no_segment (length text) fits
+  line3_low past p [] a = low_refused n (All Starts) NoSegment (length text) fits
   line3_low past p (l ∷ ls) (all_cons f a) =
       either_way (Low n (All Starts)) (blank l.body) (low_ok past p)
-      (either_way (Low n (All Starts)) (opens l.body) (low_ok (l ∷ ls) (all_cons f a)) (low_refused n (All Starts) wrong_block l.start (omega (arith, f.start))))
+      (either_way (Low n (All Starts)) (opens l.body) (low_ok (l ∷ ls) (all_cons f a)) (low_refused n (All Starts) WrongBlock l.start (omega (arith, f.start))))
 
   some_low : (gs : List Segment) → All (Lies n) gs → LowSegments n (one_or_more (length text) gs)
-  some_low [] a = low_refused n (All (Lies n)) no_segment (length text) fits
+  some_low [] a = low_refused n (All (Lies n)) NoSegment (length text) fits
   some_low (g ∷ gs) a = low_ok (g ∷ gs) a
 
   pub list_low : (issue : ℕ) → LowSegments n (segments_of text issue (lines_of text))

@@ -2,7 +2,7 @@
 use Rattle.std.specs.Prelude.{ℕ, List, map, length}
 use Rattle.std.specs.Prelude.{Option, None, Some}
 use Rattle.std.specs.Prelude.{slice_get}
-use Rattle.refusal.specs.Numbers.{out_of_range}
+use Rattle.refusal.specs.declared.Reason.TheVariants.{OutOfRange}
 use Rattle.refusal.specs.Answer.{Answer, ok, no, refused, and_then}
 use Rattle.codes.specs.Block.{Content}
 use Rattle.steps.specs.Book.{at}
@@ -48,7 +48,7 @@ abbrev pub contents_of : Bulletin → List Content
 contents_of b = map (λ (g : segments.Segment). g.content) b.segments
 
 abbrev pub place_at : Option ℕ → calls.BookAnswer
-place_at None = refused out_of_range 0
+place_at None = refused OutOfRange 0
 place_at (Some p) = ok (calls.number p)
 
 abbrev pub place_answer : ℕ → Answer Content → calls.BookAnswer

@@ -3,6 +3,7 @@
 #![tactic(auto)]
 
 ghost use Rattle.std.specs.Prelude.{◌≡◌, length};
+ghost use Rattle.refusal.specs.Answer.{answer_by};
 ghost use Rattle.codes.specs.Block.{content_at};
 ghost use Rattle.lines.specs.declared.End.TheVariants.{CrCrLf};
 ghost use Rattle.writing.specs.Write.{write_rule, length_of, output_of};
@@ -11,16 +12,15 @@ ghost use Rattle.bulletin.specs.Report.{reported};
 ghost use Rattle.bulletin.specs.View.{view_of};
 ghost use Rattle.steps.specs.Calls.{on, taking, editing, read_purge, read_count, read_place, add, remove, set_purge, opening};
 ghost use Rattle.steps.specs.Calls as calls;
-ghost use Rattle.layout.specs.Rule.{on_bytes, paper_reply};
+ghost use Rattle.layout.specs.Rule.{on_bytes, value_said};
 ghost use Rattle.making.specs.Make.{make_rule, made_answer, made_bytes, write_on};
 ghost use Rattle.sending.specs.Send.{edited_rule};
 ghost use Rattle.packing.specs.Packing.{pack, packed, nothing, plain};
 ghost use Rattle.plugin.specs.Rules.{issue_in, count_in, bbb_in, identifier_in, storm_bits_in, view_bits_of, block_end_of, purge_minute_of, count_of, place_answer, place_in};
 
-use bulletin::{Reading, Viewed};
 use calendar::Stamp;
 use layout::Reply;
-use reading::Purge;
+use refusal::{Reason, Refusal};
 
 // ---- the book
 // Makes a book of a bulletin.
@@ -159,11 +159,7 @@ pub fn hollgrimsa_issue(text: &[u8], year: u64, month: u64) -> u64
     ensures { result ≡ pack issue_in (reported (read_bulletin text.now year month)) }
 {
     let bulletin = bulletin::read(text, year as usize, month as usize);
-    let reading = bulletin.reading;
-    match reading {
-        Reading::Accepted(head) => packing::cell(0, head.issue),
-        Reading::Refused(r) => packing::cell(r.number, r.place),
-    }
+    packing::pack(bulletin, |b| b.head.issue)
 }
 
 // How many segments the bulletin has.
@@ -171,12 +167,7 @@ pub fn hollgrimsa_segments(text: &[u8], year: u64, month: u64) -> u64
     ensures { result ≡ pack count_in (reported (read_bulletin text.now year month)) }
 {
     let bulletin = bulletin::read(text, year as usize, month as usize);
-    let reading = bulletin.reading;
-    let segments = bulletin.segments;
-    match reading {
-        Reading::Accepted(_) => packing::cell(0, segments.count),
-        Reading::Refused(r) => packing::cell(r.number, r.place),
-    }
+    packing::pack(bulletin, |b| b.segments.count)
 }
 
 // The heading's BBB, 0 for none.
@@ -184,15 +175,7 @@ pub fn hollgrimsa_bbb(text: &[u8], year: u64, month: u64) -> u64
     ensures { result ≡ pack bbb_in (reported (read_bulletin text.now year month)) }
 {
     let bulletin = bulletin::read(text, year as usize, month as usize);
-    let reading = bulletin.reading;
-    match reading {
-        Reading::Accepted(head) => {
-            let heading = head.heading;
-            let bbb = heading.bbb;
-            packing::cell(0, packing::pack_bbb(bbb))
-        }
-        Reading::Refused(r) => packing::cell(r.number, r.place),
-    }
+    packing::pack(bulletin, |b| packing::pack_bbb(b.head.heading.bbb))
 }
 
 // The place of the identifier.
@@ -200,11 +183,7 @@ pub fn hollgrimsa_identifier(text: &[u8], year: u64, month: u64) -> u64
     ensures { result ≡ pack identifier_in (reported (read_bulletin text.now year month)) }
 {
     let bulletin = bulletin::read(text, year as usize, month as usize);
-    let reading = bulletin.reading;
-    match reading {
-        Reading::Accepted(head) => packing::cell(0, head.identifier),
-        Reading::Refused(r) => packing::cell(r.number, r.place),
-    }
+    packing::pack(bulletin, |b| b.head.identifier)
 }
 
 // The storm, 0 for none.
@@ -212,14 +191,7 @@ pub fn hollgrimsa_storm(text: &[u8], year: u64, month: u64) -> u64
     ensures { result ≡ pack storm_bits_in (reported (read_bulletin text.now year month)) }
 {
     let bulletin = bulletin::read(text, year as usize, month as usize);
-    let reading = bulletin.reading;
-    match reading {
-        Reading::Accepted(head) => {
-            let storm = head.storm;
-            packing::cell(0, packing::pack_storm(storm))
-        }
-        Reading::Refused(r) => packing::cell(r.number, r.place),
-    }
+    packing::pack(bulletin, |b| packing::pack_storm(b.head.storm))
 }
 
 // ---- of segment n, counted from 1
@@ -227,83 +199,62 @@ pub fn hollgrimsa_storm(text: &[u8], year: u64, month: u64) -> u64
 pub fn hollgrimsa_view(text: &[u8], year: u64, month: u64, n: u64) -> u64
     ensures { result ≡ pack view_bits_of (view_of text.now year month n) }
 {
-    match bulletin::find_segment(text, year as usize, month as usize, n as usize) {
-        Viewed::One(g) => packing::cell(0, packing::pack_view(g.start, g.past)),
-        Viewed::Refused(r) => packing::cell(r.number, r.place),
-    }
+    let segment = bulletin::find_segment(text, year as usize, month as usize, n as usize);
+    packing::pack(segment, |g| packing::pack_view(g.start, g.past))
 }
 
 // The place after its block's last line.
 pub fn hollgrimsa_block_end(text: &[u8], year: u64, month: u64, n: u64) -> u64
     ensures { result ≡ pack block_end_of (view_of text.now year month n) }
 {
-    match bulletin::find_segment(text, year as usize, month as usize, n as usize) {
-        Viewed::One(g) => packing::cell(0, g.block),
-        Viewed::Refused(r) => packing::cell(r.number, r.place),
-    }
+    let segment = bulletin::find_segment(text, year as usize, month as usize, n as usize);
+    packing::pack(segment, |g| g.block)
 }
 
 // Its purge minute.
 pub fn hollgrimsa_purge(text: &[u8], year: u64, month: u64, n: u64) -> u64
     ensures { result ≡ pack purge_minute_of (view_of text.now year month n) }
 {
-    match bulletin::find_segment(text, year as usize, month as usize, n as usize) {
-        Viewed::One(g) => packing::cell(0, g.purge),
-        Viewed::Refused(r) => packing::cell(r.number, r.place),
-    }
+    let segment = bulletin::find_segment(text, year as usize, month as usize, n as usize);
+    packing::pack(segment, |g| g.purge)
 }
 
 // How many places it has.
 pub fn hollgrimsa_count(text: &[u8], year: u64, month: u64, n: u64) -> u64
     ensures { result ≡ pack count_of (view_of text.now year month n) }
 {
-    match bulletin::find_segment(text, year as usize, month as usize, n as usize) {
-        Viewed::One(g) => packing::cell(0, g.count),
-        Viewed::Refused(r) => packing::cell(r.number, r.place),
-    }
+    let segment = bulletin::find_segment(text, year as usize, month as usize, n as usize);
+    packing::pack(segment, |g| g.count)
 }
 
 // The place at index i of the block that starts at a place of the text.
-fn place_at(text: &[u8], start: usize, issue: usize, i: usize) -> Reply
-    ensures { paper_reply result ≡ place_answer i (content_at text.now issue start) }
+fn place_at(text: &[u8], start: usize, issue: usize, i: usize) -> Result<Reply, Refusal>
+    ensures { answer_by value_said result ≡ place_answer i (content_at text.now issue start) }
 {
-    let content = reading::read_content(text, start, issue);
+    let content = reading::read_content(text, start, issue)?;
     let places = content.places;
-    let purge = content.purge;
-    match purge {
-        Purge::Refused(r) => Reply::Refused(r),
-        Purge::At(_, _) => {
-            if places.count <= i {
-                return layout::refused(refusal::OUT_OF_RANGE);
-            }
-            let held = places.held;
-            Reply::Number(codes::wide(held[i]))
-        }
+    if places.count <= i {
+        return Err(Reason::OutOfRange.into());
     }
+    let held = places.held;
+    Ok(Reply::Number(codes::wide(held[i])))
 }
 
 // The place at index i of segment n.
-fn find_place(text: &[u8], year: usize, month: usize, n: usize, i: usize) -> Reply
-    ensures { paper_reply result ≡ place_in text.now year month n i }
+fn find_place(text: &[u8], year: usize, month: usize, n: usize, i: usize) -> Result<Reply, Refusal>
+    ensures { answer_by value_said result ≡ place_in text.now year month n i }
 {
-    let bulletin = bulletin::read(text, year, month);
-    let reading = bulletin.reading;
+    let bulletin = bulletin::read(text, year, month)?;
     let segments = bulletin.segments;
-    match reading {
-        Reading::Refused(r) => Reply::Refused(r),
-        Reading::Accepted(head) => {
-            if n < 1 {
-                return layout::refused(refusal::NO_SUCH_SEGMENT);
-            }
-            if segments.count < n {
-                return layout::refused(refusal::NO_SUCH_SEGMENT);
-            }
-            let held = segments.held;
-            let k = n - 1;
-            let g = held[k];
-            place_at(text, g.start, head.issue, i)
-        }
+    if n < 1 {
+        return Err(Reason::NoSuchSegment.into());
     }
+    if segments.count < n {
+        return Err(Reason::NoSuchSegment.into());
+    }
+    let held = segments.held;
+    let g = held[n - 1];
+    place_at(text, g.start, bulletin.head.issue, i)
 }
 
 // Its place at index i, from 0.

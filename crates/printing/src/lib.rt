@@ -4,15 +4,16 @@
 ghost use Rattle.std.specs.Prelude.{◌≡◌, ◌<◌, ◌≤◌, length, get_or, take, IfOk, OnOk, decimal};
 ghost use Rattle.std.specs.Io.KnownBytes.{Appends, Consumes, IsAtEnd};
 ghost use Rattle.lines.specs.Bytes.{digit};
+ghost use Rattle.sets.specs.Held.{Good};
 ghost use Rattle.printing.specs.Asked.{asked_of};
 
-use bulletin::{Head, Reading};
+use bulletin::Head;
 use heading::{Basin, Bbb, StormId};
 use refusal::Refusal;
 use segments::Segment;
+use sets::Places;
 use std::io;
 use std::io::{Read, Write};
-use writing::Written;
 
 // The time that a bulletin is read under.
 #[derive(Clone, Copy)]
@@ -88,7 +89,7 @@ fn say_two<W: Write>(out: &mut W, n: usize) -> io::Result<()> {
 // `R`, the number and the place.
 pub fn say_refusal<W: Write>(out: &mut W, r: Refusal) -> io::Result<()> {
     say(out, b"R ")?;
-    say_number(out, r.number)?;
+    say_number(out, r.reason.number())?;
     say(out, b" ")?;
     say_number(out, r.place)?;
     say(out, b"\n")
@@ -169,6 +170,21 @@ fn strip(block: &mut [u8], n: usize) -> usize
     kept
 }
 
+// The written block of these places, without line ends.
+fn say_block<W: Write>(out: &mut W, places: Places, purge: usize) -> io::Result<()>
+    requires { Good places }
+{
+    let mut block = [0u8; 2048];
+    let held = places.held;
+    if let Ok(n) = writing::write_block(&mut block, &held[0..places.count], purge) {
+        if n <= 2048 {
+            let kept = strip(&mut block, n);
+            say(out, &block[0..kept])?;
+        }
+    }
+    Ok(())
+}
+
 // A segment's number, purge minute, count and written block without line ends.
 fn say_segment<W: Write>(
     out: &mut W,
@@ -177,23 +193,15 @@ fn say_segment<W: Write>(
     number: usize,
     segment: Segment,
 ) -> io::Result<()> {
-    let content = reading::read_content(text, segment.start, issue);
-    let places = content.places;
-    let held = places.held;
-    let count = places.count;
-    let mut block = [0u8; 2048];
     say(out, b"S ")?;
     say_number(out, number)?;
     say(out, b" ")?;
     say_number(out, segment.purge)?;
     say(out, b" ")?;
-    say_number(out, count)?;
+    say_number(out, segment.count)?;
     say(out, b" ")?;
-    if let Written::Length(n) = writing::write_block(&mut block, &held[0..count], segment.purge) {
-        if n <= 2048 {
-            let kept = strip(&mut block, n);
-            say(out, &block[0..kept])?;
-        }
+    if let Ok(content) = reading::read_content(text, segment.start, issue) {
+        say_block(out, content.places, segment.purge)?;
     }
     say(out, b"\n")
 }
@@ -217,14 +225,13 @@ fn say_segments<W: Write>(
 
 // The listing of a bulletin, read under a year and a month: nothing is printed before the whole answer is known.
 pub fn list<W: Write>(out: &mut W, text: &[u8], year: usize, month: usize) -> io::Result<()> {
-    let bulletin = bulletin::read(text, year, month);
-    let segments = bulletin.segments;
-    let reading = bulletin.reading;
-    match reading {
-        Reading::Refused(r) => say_refusal(out, r),
-        Reading::Accepted(head) => {
-            say_head(out, text, head)?;
+    match bulletin::read(text, year, month) {
+        Err(r) => say_refusal(out, r),
+        Ok(bulletin) => {
+            let head = bulletin.head;
+            let segments = bulletin.segments;
             let held = segments.held;
+            say_head(out, text, head)?;
             say_segments(out, text, head.issue, held, segments.count)
         }
     }

@@ -3,8 +3,8 @@ use Prim.Native.Nat.{ℕ, suc, ◌+◌, ◌-◌, ◌<◌}
 use native.Mathlib.Omega.{arith}
 use mathlib.Core.Path.{◌≡◌, refl, sym, ap, ap₂, ◌∙◌}
 use mathlib.Core.List.{List, [], ◌∷◌, ◌++◌}
-use mathlib.Core.Bool.{Bool, true, false}
-use Rattle.std.specs.Prelude.{Option, None, Some}
+use mathlib.Core.Bool.{true, false}
+use Rattle.std.specs.Prelude.{Option, None, Some, Result, Ok, Err, IfOk}
 use borrow.Author.Tests.{le-leb, lt-leb}
 use lib.Dec.{leb}
 use lib.ListN.{length, drop, replicate, take-append-drop}
@@ -29,13 +29,12 @@ use Rattle.sets.specs.declared.Put.{Put}
 use Rattle.sets.specs.declared.Put.TheVariants as put
 use Rattle.sets.proofs.Searches.{holds_in_lem, holds_out}
 use Rattle.sets.proofs.Sets.{held_many, held_is}
-use Rattle.reading.specs.Held.{bare_for, block_for}
+use Rattle.refusal.specs.Answer.{refusal_for}
+use Rattle.refusal.specs.declared.Reason.TheVariants.{WrongBlock}
+use Rattle.refusal.specs.declared.Refusal.{Refusal}
+use Rattle.reading.specs.Held.{block_for}
 use Rattle.reading.specs.Rests.{Known, read_on, rest_of, over_for}
-use Rattle.reading.specs.declared.Rest.{Rest}
-use Rattle.reading.specs.declared.Rest.TheVariants as rest
 use Rattle.reading.specs.declared.Block.{Block}
-use Rattle.reading.specs.declared.Found.{Found}
-use Rattle.reading.specs.declared.Found.TheVariants as found
 use Rattle.reading.proofs.Rests.{rest_any, read_long, below_known}
 
 -- places by value are those that are held, and zeros behind them
@@ -54,13 +53,10 @@ pub none_good : Good (places_for [])
 unfolding vacant
 none_good = record { long = refl; few = omega arith; rising = nil; rest = refl }
 
-pub bare_good : (found : Found) (over : Bool) (r : Block) → r ≡ bare_for found over → Good r.places
-bare_good found over r e = rw e none_good
-
-pub over_good : (t : Option ℕ) (x : Rest) (r : Block) → r ≡ over_for t x → Good r.places
-over_good None (rest.Purge s at) r e = rw e none_good
-over_good (Some again) (rest.Purge s at) r e = rw e none_good
-over_good t (rest.Wrong place) r e = rw e none_good
+pub over_good : (t : Option ℕ) (x : Result (Stamp × ℕ) Refusal) (r : Result Block Refusal) → r ≡ over_for t x → IfOk r (λ b. Good b.places)
+over_good None (Ok e) r q = rw q none_good
+over_good (Some again) (Ok e) r q = rw q tt
+over_good t (Err w) r q = rw q tt
 
 -- the first repeating element from the reading place on
 abbrev twice_on : List ℕ → Cursor → List Stretch → Option ℕ
@@ -106,15 +102,15 @@ module _ (s : List ℕ) (at : ℕ) (c : Cursor) (t : Places) (v : Reads s at c t
   twice_is : (y : Step) → r ≡ y → twice_then s c.at v.before y ≡ twice_at s at
   twice_is y q = ap (twice_then s c.at v.before) (sym q ∙ e) ∙ sym (twice_step s v.before c) ∙ v.repeat
 
-  pub reads_wrong : (place : ℕ) → r ≡ Step.Wrong place → (b : Block) → b ≡ bare_for (found.Wrong place) false → b ≡ block_for (twice_at s at) (read_block s at)
-  reads_wrong place q b w = w ∙ ap (block_for (twice_at s at)) (then_is (Step.Wrong place) q)
+  pub reads_wrong : (place : ℕ) → r ≡ Step.Wrong place → (w : Refusal) → w ≡ refusal_for WrongBlock place → Err w ≡ block_for (twice_at s at) (read_block s at)
+  reads_wrong place q w e = ap Err e ∙ ap (block_for (twice_at s at)) (then_is (Step.Wrong place) q)
 
   pub reads_purge : (stamp : Stamp) (place : ℕ) → r ≡ Step.Purge stamp place
-      → record { found = found.Whole stamp place; over = false; places = t } ≡ block_for (twice_at s at) (read_block s at)
+      → Ok (record { stamp = stamp; place = place; over = false; places = t }) ≡ block_for (twice_at s at) (read_block s at)
   reads_purge stamp place q =
       let n : length got ≡ t.count = ap length (sym v.all) ∙ length-take-le t.count t.held (omega (arith, v.good.long, v.good.few)) in
       let few : leb (length got) 120 ≡ true = le-leb (length got) 120 (omega (arith, v.good.few)) in
-      ap (λ (x : Places). record { found = found.Whole stamp place; over = false; places = x }) (places_are_lem t got v.good v.all)
+      ap (λ (x : Places). Ok (record { stamp = stamp; place = place; over = false; places = x })) (places_are_lem t got v.good v.all)
       ∙ (rw few)
       ∙ ap₂ block_for (twice_is (Step.Purge stamp place) q) (then_is (Step.Purge stamp place) q)
 
@@ -188,7 +184,7 @@ module _ (s : List ℕ) (at : ℕ) (c : Cursor) (t : Places) (v : Reads s at c t
           }
 
       -- too many: asked for by itself
-      pub reads_over : x ≡ put.Over → (b : Block) → b ≡ over_for (twice_at s at) (rest_of (read_on s behind)) → b ≡ block_for (twice_at s at) (read_block s at)
+      pub reads_over : x ≡ put.Over → (b : Result Block Refusal) → b ≡ over_for (twice_at s at) (rest_of (read_on s behind)) → b ≡ block_for (twice_at s at) (read_block s at)
       reads_over h b eb =
           let t : is_twice x ≡ false = rw h in
           let k : 120 < length (gathered (here ∷ v.before)) = held_many true after (gathered (here ∷ v.before)) (rw h at (held_now t)) refl in
@@ -197,7 +193,7 @@ module _ (s : List ℕ) (at : ℕ) (c : Cursor) (t : Places) (v : Reads s at c t
           (λ ps stamp z g o. omega (arith, read_long (length s) (Some p) (gathered (here ∷ v.before)) rest_of_lem ps stamp z (next_is ∙ g)))
 
       -- covered twice
-      pub reads_twice : x ≡ put.Twice → (b : Block) → b ≡ over_for (Some c.at) (rest_of (read_on s behind)) → b ≡ block_for (twice_at s at) (read_block s at)
+      pub reads_twice : x ≡ put.Twice → (b : Result Block Refusal) → b ≡ over_for (Some c.at) (rest_of (read_on s behind)) → b ≡ block_for (twice_at s at) (read_block s at)
       reads_twice h b eb =
           let z : is_twice x ≡ true = rw h in
           let a : covered_before here v.before ≡ true = sym again_is ∙ z in

@@ -4,7 +4,7 @@ use native.Mathlib.Omega.{arith}
 use mathlib.Core.Path.{◌≡◌, refl, sym, ap, ◌∙◌}
 use mathlib.Core.List.{List, [], ◌∷◌}
 use mathlib.Core.Bool.{Bool, true, false}
-use Rattle.std.specs.Prelude.{Option, None, Some}
+use Rattle.std.specs.Prelude.{Option, None, Some, Result, Ok, Err}
 use lib.ListN.{length, drop}
 use Rattle.laws.proofs.Tests.{apart}
 use Rattle.calendar.specs.declared.Stamp.{Stamp}
@@ -19,12 +19,12 @@ use Rattle.codes.proofs.Bounds.{Below}
 use Rattle.codes.proofs.Members.{run_length}
 use Rattle.codes.proofs.Turns.{read_covers, read_purge_lem, read_wrong}
 use Rattle.codes.proofs.Steps.{read_then, read_step, Ahead, step_ahead}
-use Rattle.reading.specs.Held.{bare_for}
-use Rattle.reading.specs.Rests.{Known, read_on, rest_of, many_for, over_for}
-use Rattle.reading.specs.declared.Block.{Block}
-use Rattle.reading.specs.declared.Found.TheVariants as found
-use Rattle.reading.specs.declared.Rest.{Rest}
-use Rattle.reading.specs.declared.Rest.TheVariants as rest
+use Rattle.refusal.specs.Answer.{refusal_for}
+use Rattle.refusal.specs.declared.Reason.TheVariants.{WrongBlock, PlaceTwice}
+use Rattle.refusal.specs.declared.Refusal.{Refusal}
+use Rattle.sets.specs.Held.{places_for}
+use Rattle.sets.specs.declared.Places.{Places}
+use Rattle.reading.specs.Rests.{Known, read_on, rest_of, over_for}
 
 -- ---- the end, and the places so far
 ends_any : (l : Bool) (got other : List ℕ) (t : Stamp) (at next : ℕ) → rest_of (ended l (block got t at) next) ≡ rest_of (ended l (block other t at) next)
@@ -85,11 +85,11 @@ module _ (s : List ℕ) (from c : Cursor) (v : Resting s from c) (r : Step) (e :
   rest_is : (y : Step) → r ≡ y → rest_of (read_then s [] y) ≡ rest_of (read_on s from)
   rest_is y q = ap rest_of (ap (read_then s []) (sym q ∙ e) ∙ sym (read_step s [] c)) ∙ v.same
 
-  pub resting_purge : (stamp : Stamp) (place : ℕ) → r ≡ Step.Purge stamp place → rest.Purge stamp place ≡ rest_of (read_on s from)
+  pub resting_purge : (stamp : Stamp) (place : ℕ) → r ≡ Step.Purge stamp place → Ok (stamp, place) ≡ rest_of (read_on s from)
   resting_purge stamp place q = rest_is (Step.Purge stamp place) q
 
-  pub resting_wrong : (place : ℕ) → r ≡ Step.Wrong place → rest.Wrong place ≡ rest_of (read_on s from)
-  resting_wrong place q = rest_is (Step.Wrong place) q
+  pub resting_wrong : (place : ℕ) → r ≡ Step.Wrong place → (w : Refusal) → w ≡ refusal_for WrongBlock place → Err w ≡ rest_of (read_on s from)
+  resting_wrong place q w ew = ap Err ew ∙ rest_is (Step.Wrong place) q
 
   module _ (p n m : ℕ) (next : Cursor) (q : r ≡ Step.Covers p n m next) where
     ahead : Ahead s c p n m next
@@ -106,19 +106,13 @@ module _ (s : List ℕ) (from c : Cursor) (v : Resting s from c) (r : Step) (e :
         }
 
 -- ---- what is found
-module _ (r end : Rest) (er : r ≡ end) (t : Option ℕ) (b : Block) where
-  pub over_wrong : (place : ℕ) → r ≡ rest.Wrong place → b ≡ bare_for (found.Wrong place) false → b ≡ over_for t end
-  over_wrong place q w = w ∙ ap (over_for t) (sym q ∙ er)
+module _ (end : Result (Stamp × ℕ) Refusal) (t : Option ℕ) where
+  pub over_wrong : (w : Refusal) → (r : Result (Stamp × ℕ) Refusal) → r ≡ end → r ≡ Err w → Err w ≡ over_for t end
+  over_wrong w r er q = ap (over_for t) (sym q ∙ er)
 
-  module _ (stamp : Stamp) (place : ℕ) (q : r ≡ rest.Purge stamp place) where
-    over_purge : (o : Option ℕ) → o ≡ t → b ≡ many_for o stamp place → b ≡ over_for t end
-    over_purge o eo w = w ∙ ap (λ (x : Option ℕ). many_for x stamp place) eo ∙ ap (over_for t) (sym q ∙ er)
+  module _ (e : Stamp × ℕ) (r : Result (Stamp × ℕ) Refusal) (er : r ≡ end) (q : r ≡ Ok e) where
+    pub over_again : (again : ℕ) → t ≡ Some again → (w : Refusal) → w ≡ refusal_for PlaceTwice again → Err w ≡ over_for t end
+    over_again again et w ew = rw (ew, et, ← er, q)
 
-    pub over_again : (w : Option ℕ) → w ≡ t → (again : ℕ) → w ≡ Some again → b ≡ bare_for (found.Twice again) false → b ≡ over_for t end
-    over_again w ew again e d = over_purge w ew (d ∙ ap (λ (x : Option ℕ). many_for x stamp place) (sym e))
-
-    pub over_many : (w : Option ℕ) → w ≡ t → w ≡ None → b ≡ bare_for (found.Whole stamp place) true → b ≡ over_for t end
-    over_many w ew e d = over_purge w ew (d ∙ ap (λ (x : Option ℕ). many_for x stamp place) (sym e))
-
-    pub over_known : (again : ℕ) → Some again ≡ t → b ≡ bare_for (found.Twice again) false → b ≡ over_for t end
-    over_known again e d = over_purge (Some again) e d
+    pub over_many : t ≡ None → (ps : Places) → ps ≡ places_for [] → Ok (record { stamp = e.0; place = e.1; over = true; places = ps }) ≡ over_for t end
+    over_many et ps ep = rw (ep, et, ← er, q)

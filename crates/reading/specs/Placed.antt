@@ -1,13 +1,13 @@
 -- Document 01, "Segments and place code blocks": the content of a segment, and where its purge stands.
 use Rattle.std.specs.Prelude.{ℕ, List}
-use Rattle.refusal.specs.Numbers.{wrong_block}
+use Rattle.refusal.specs.declared.Reason.TheVariants.{WrongBlock}
 use Rattle.refusal.specs.Answer.{Answer, ok, refused, and_then}
 use Rattle.codes.specs.Block.{Read, block, wrong_at, read_block, Content, content_at}
 
 -- the place of the purge element; a block that is wrong has none
 abbrev pub purge_place : Read → Answer ℕ
 purge_place (block ps s at) = ok at
-purge_place (wrong_at place) = refused wrong_block place
+purge_place (wrong_at place) = refused WrongBlock place
 
 pub record Placed : Type 0 where
   pub content : Content

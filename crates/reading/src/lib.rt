@@ -1,69 +1,38 @@
 // Place code blocks, read whole: document 01, "Segments and place code blocks".
 #![tactic(auto)]
 
-ghost use Rattle.std.specs.Prelude.{◌≡◌, []};
-ghost use Rattle.std.specs.Prelude.{Some};
+ghost use Rattle.std.specs.Prelude.{◌≡◌, Some, IfOk};
+ghost use Rattle.refusal.specs.Answer.{answer_by};
 ghost use Rattle.codes.specs.Block.{read_block, twice_at};
-ghost use Rattle.sets.specs.Held.{Good, places_for};
+ghost use Rattle.sets.specs.Held.{Good};
 ghost use Rattle.reading.specs.Placed.{placed_at};
-ghost use Rattle.reading.specs.Held.{bare_for, block_for, content_for};
+ghost use Rattle.reading.specs.Held.{block_for, placed_of};
 ghost use Rattle.reading.specs.Rests.{Known, read_on, rest_of, over_for};
 
 use calendar::Stamp;
 use codes::{Cursor, Step};
-use refusal::Refusal;
+use refusal::{Reason, Refusal};
 use sets::{Places, Put};
 
-// A whole block's DDHHMM and the place of its element; the place of the first element that covers a place already covered; or that of the first wrong element.
-#[derive(Clone, Copy)]
-pub enum Found {
-    Whole(Stamp, usize),
-    Twice(usize),
-    Wrong(usize),
-}
-
-// A block, with its places, or that they are over 120. Of those, and of any other block than a whole one, none are held.
+// A whole block: its DDHHMM, the place of its element, and its places, or that they are over 120; of those none are held.
 #[derive(Clone, Copy)]
 pub struct Block {
-    pub found: Found,
+    pub stamp: Stamp,
+    pub place: usize,
     pub over: bool,
     pub places: Places,
 }
 
-// A purge minute and the place of the purge element.
-#[derive(Clone, Copy)]
-pub enum Purge {
-    At(usize, usize),
-    Refused(Refusal),
-}
-
-// A segment's purge and its places; on a refusal no places.
+// A segment's purge minute, the place of the purge element, and its places.
 #[derive(Clone, Copy)]
 pub struct Content {
-    pub purge: Purge,
+    pub purge: usize,
+    pub place: usize,
     pub places: Places,
 }
 
-// Where a block ends: its DDHHMM and the place of its element, or the place of the first wrong element.
-#[derive(Clone, Copy)]
-enum Rest {
-    Purge(Stamp, usize),
-    Wrong(usize),
-}
-
-// A block of which no places are held.
-fn bare(found: Found, over: bool) -> Block
-    ensures { result ≡ bare_for found over }
-{
-    Block {
-        found,
-        over,
-        places: Places::new(),
-    }
-}
-
-// The rest of a block, of which no place is kept: where it ends.
-fn rest_of(text: &[u8], from: Cursor) -> Rest
+// The rest of a block, of which no place is kept: its DDHHMM and the place of that element.
+fn rest_of(text: &[u8], from: Cursor) -> Result<(Stamp, usize), Refusal>
     requires { Known from }
     ensures { result ≡ rest_of (read_on text.now from) }
 {
@@ -77,54 +46,44 @@ fn rest_of(text: &[u8], from: Cursor) -> Rest
                     last: Some(prefix),
                 };
             }
-            Step::Purge(stamp, place) => {
-                return Rest::Purge(stamp, place);
-            }
-            Step::Wrong(place) => {
-                return Rest::Wrong(place);
-            }
+            Step::Purge(stamp, place) => return Ok((stamp, place)),
+            Step::Wrong(place) => return Err(Reason::WrongBlock.at(place)),
         }
     }
 }
 
 // A block of more than 120 places, of which `from` is the rest. Whether an element covers a place already covered is asked for by itself.
-fn found_over(text: &[u8], at: usize, from: Cursor) -> Block
+fn found_over(text: &[u8], at: usize, from: Cursor) -> Result<Block, Refusal>
     requires { Known from }
     ensures { result ≡ over_for (twice_at text.now at) (rest_of (read_on text.now from)) }
 {
-    let rest = rest_of(text, from);
-    match rest {
-        Rest::Wrong(place) => bare(Found::Wrong(place), false),
-        Rest::Purge(stamp, place) => {
-            let Some(again) = repeats::first_twice(text, at) else {
-                return bare(Found::Whole(stamp, place), true);
-            };
-            bare(Found::Twice(again), false)
-        }
+    let (stamp, place) = rest_of(text, from)?;
+    if let Some(again) = repeats::first_twice(text, at) {
+        return Err(Reason::PlaceTwice.at(again));
     }
+    Ok(Block {
+        stamp,
+        place,
+        over: true,
+        places: Places::new(),
+    })
 }
 
 // A block whose element at `again` covers a place already covered, and of which `from` is the rest.
-fn found_twice(text: &[u8], again: usize, from: Cursor) -> Block
+fn found_twice(text: &[u8], again: usize, from: Cursor) -> Result<Block, Refusal>
     requires { Known from }
     ensures { result ≡ over_for (Some again) (rest_of (read_on text.now from)) }
 {
-    let rest = rest_of(text, from);
-    match rest {
-        Rest::Wrong(wrong) => bare(Found::Wrong(wrong), false),
-        Rest::Purge(_, _) => bare(Found::Twice(again), false),
-    }
+    rest_of(text, from)?;
+    Err(Reason::PlaceTwice.at(again))
 }
 
 // The block that starts at a place of the text.
-pub fn read_block(text: &[u8], at: usize) -> Block
+pub fn read_block(text: &[u8], at: usize) -> Result<Block, Refusal>
     ensures is { result ≡ block_for (twice_at text.now at) (read_block text.now at) }
-    ensures good { Good result.places }
+    ensures good { IfOk result (λ b. Good b.places) }
 {
-    let mut cursor = Cursor {
-        at,
-        last: None,
-    };
+    let mut cursor = Cursor { at, last: None };
     let mut places = Places::new();
     loop {
         let here = cursor.at;
@@ -142,47 +101,31 @@ pub fn read_block(text: &[u8], at: usize) -> Block
                 }
             }
             Step::Purge(stamp, place) => {
-                return Block {
-                    found: Found::Whole(stamp, place),
+                return Ok(Block {
+                    stamp,
+                    place,
                     over: false,
                     places,
-                };
+                });
             }
-            Step::Wrong(place) => return bare(Found::Wrong(place), false),
+            Step::Wrong(place) => return Err(Reason::WrongBlock.at(place)),
         }
     }
 }
 
 // The content of the segment that starts at a place of the text, under an issue.
-pub fn read_content(text: &[u8], start: usize, issue: usize) -> Content
-    ensures is { result ≡ content_for (placed_at text.now issue start) }
-    ensures good { Good result.places }
+pub fn read_content(text: &[u8], start: usize, issue: usize) -> Result<Content, Refusal>
+    ensures is { answer_by placed_of result ≡ placed_at text.now issue start }
+    ensures good { IfOk result (λ c. Good c.places) }
 {
-    let block = read_block(text, start);
-    let found = block.found;
-    match found {
-        Found::Wrong(place) => refused(refusal::WRONG_BLOCK, place),
-        Found::Twice(again) => refused(refusal::PLACE_TWICE, again),
-        Found::Whole(stamp, place) => {
-            let Some(minute) = calendar::purge_of(issue, stamp) else {
-                return refused(refusal::WRONG_TIME, place);
-            };
-            if block.over {
-                return refused(refusal::TOO_MANY_PLACES, start);
-            }
-            let places = block.places;
-            let purge = Purge::At(minute, place);
-            Content { purge, places }
-        }
+    let block = read_block(text, start)?;
+    let purge = calendar::purge_of(issue, block.stamp).ok_or(Reason::WrongTime.at(block.place))?;
+    if block.over {
+        return Err(Reason::TooManyPlaces.at(start));
     }
-}
-
-fn refused(number: usize, place: usize) -> Content
-    ensures { result ≡ record { purge = Purge.Refused (record { number = number; place = place }); places = places_for [] } }
-{
-    let purge = Purge::Refused(Refusal { number, place });
-    Content {
+    Ok(Content {
         purge,
-        places: Places::new(),
-    }
+        place: block.place,
+        places: block.places,
+    })
 }

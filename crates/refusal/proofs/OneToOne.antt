@@ -5,25 +5,26 @@ use mathlib.Core.List.{List, [], ◌∷◌}
 use mathlib.Core.Bool.{true, cond, ◌&&◌}
 use lib.Dec.{eqb, leb, ltb}
 use Rattle.laws.proofs.Tests.{apart}
-use Rattle.refusal.specs.Numbers.{Reason, number_of, wrong_length, wrong_text, wrong_heading, wrong_identifier, wrong_time, wrong_block, no_segment, no_end, ninth_segment, wrong_storm, too_many_places, not_sound, no_draft, all_open, no_such_segment, not_taken, taken_already, two_taken, segment_full, only_place, stale_draft, no_step, output_short, out_of_range, place_twice, not_belonging}
-use Rattle.refusal.specs.Answer.{Answer, paper_refusal, paper_verdict}
+use Rattle.refusal.specs.Numbers.{number_of}
+use Rattle.refusal.specs.declared.Reason.{Reason}
+use Rattle.refusal.specs.declared.Reason.TheVariants.{WrongLength, WrongText, WrongHeading, WrongIdentifier, WrongTime, WrongBlock, NoSegment, NoEnd, NinthSegment, WrongStorm, TooManyPlaces, NotSound, NoDraft, AllOpen, NoSuchSegment, NotTaken, TakenAlready, TwoTaken, SegmentFull, OnlyPlace, StaleDraft, NoStep, OutputShort, OutOfRange, PlaceTwice, NotBelonging}
+use Rattle.std.specs.Prelude.{Result, Ok, Err}
+use Rattle.refusal.specs.Answer.{Answer, answer_by, answer_of}
 use Rattle.refusal.specs.declared.Refusal.{Refusal}
-use Rattle.refusal.specs.declared.Verdict.{Verdict}
-use Rattle.refusal.specs.declared.Verdict.TheVariants.{Accepted, Refused}
 
 -- the table's rows, in order
 rows : List Reason
 rows =
-    wrong_length ∷ wrong_text ∷ wrong_heading ∷ wrong_identifier ∷ wrong_time ∷ wrong_block ∷ no_segment ∷ no_end ∷ ninth_segment ∷ wrong_storm ∷ too_many_places ∷ not_sound ∷ no_draft ∷ all_open ∷ no_such_segment ∷ not_taken ∷ taken_already ∷ two_taken ∷ segment_full ∷ only_place ∷ stale_draft ∷ no_step ∷ output_short ∷ out_of_range ∷ place_twice ∷ not_belonging ∷ []
+    WrongLength ∷ WrongText ∷ WrongHeading ∷ WrongIdentifier ∷ WrongTime ∷ WrongBlock ∷ NoSegment ∷ NoEnd ∷ NinthSegment ∷ WrongStorm ∷ TooManyPlaces ∷ NotSound ∷ NoDraft ∷ AllOpen ∷ NoSuchSegment ∷ NotTaken ∷ TakenAlready ∷ TwoTaken ∷ SegmentFull ∷ OnlyPlace ∷ StaleDraft ∷ NoStep ∷ OutputShort ∷ OutOfRange ∷ PlaceTwice ∷ NotBelonging ∷ []
 
 -- the first of these rows that has the number
 row_of : List Reason → ℕ → Reason
-row_of [] n = wrong_length
+row_of [] n = WrongLength
 row_of (r ∷ rs) n = cond (eqb (number_of r) n) r (row_of rs n)
 
 row_back : (r : Reason) → row_of rows (number_of r) ≡ r
 unfolding rows row_of
-row_back = elim [ wrong_length ↦ refl | wrong_text ↦ refl | wrong_heading ↦ refl | wrong_identifier ↦ refl | wrong_time ↦ refl | wrong_block ↦ refl | no_segment ↦ refl | no_end ↦ refl | ninth_segment ↦ refl | wrong_storm ↦ refl | too_many_places ↦ refl | not_sound ↦ refl | no_draft ↦ refl | all_open ↦ refl | no_such_segment ↦ refl | not_taken ↦ refl | taken_already ↦ refl | two_taken ↦ refl | segment_full ↦ refl | only_place ↦ refl | stale_draft ↦ refl | no_step ↦ refl | output_short ↦ refl | out_of_range ↦ refl | place_twice ↦ refl | not_belonging ↦ refl ]
+row_back = elim [ WrongLength ↦ refl | WrongText ↦ refl | WrongHeading ↦ refl | WrongIdentifier ↦ refl | WrongTime ↦ refl | WrongBlock ↦ refl | NoSegment ↦ refl | NoEnd ↦ refl | NinthSegment ↦ refl | WrongStorm ↦ refl | TooManyPlaces ↦ refl | NotSound ↦ refl | NoDraft ↦ refl | AllOpen ↦ refl | NoSuchSegment ↦ refl | NotTaken ↦ refl | TakenAlready ↦ refl | TwoTaken ↦ refl | SegmentFull ↦ refl | OnlyPlace ↦ refl | StaleDraft ↦ refl | NoStep ↦ refl | OutputShort ↦ refl | OutOfRange ↦ refl | PlaceTwice ↦ refl | NotBelonging ↦ refl ]
 
 -- no two rows have one number
 pub number_one : (r s : Reason) → number_of r ≡ number_of s → r ≡ s
@@ -31,17 +32,34 @@ number_one r s e = sym (row_back r) ∙ ap (row_of rows) e ∙ row_back s
 
 -- and each is a byte that is not 0
 pub number_byte : (r : Reason) → (leb 1 (number_of r) && ltb (number_of r) 256) ≡ true
-number_byte = elim [ wrong_length ↦ refl | wrong_text ↦ refl | wrong_heading ↦ refl | wrong_identifier ↦ refl | wrong_time ↦ refl | wrong_block ↦ refl | no_segment ↦ refl | no_end ↦ refl | ninth_segment ↦ refl | wrong_storm ↦ refl | too_many_places ↦ refl | not_sound ↦ refl | no_draft ↦ refl | all_open ↦ refl | no_such_segment ↦ refl | not_taken ↦ refl | taken_already ↦ refl | two_taken ↦ refl | segment_full ↦ refl | only_place ↦ refl | stale_draft ↦ refl | no_step ↦ refl | output_short ↦ refl | out_of_range ↦ refl | place_twice ↦ refl | not_belonging ↦ refl ]
+number_byte = elim [ WrongLength ↦ refl | WrongText ↦ refl | WrongHeading ↦ refl | WrongIdentifier ↦ refl | WrongTime ↦ refl | WrongBlock ↦ refl | NoSegment ↦ refl | NoEnd ↦ refl | NinthSegment ↦ refl | WrongStorm ↦ refl | TooManyPlaces ↦ refl | NotSound ↦ refl | NoDraft ↦ refl | AllOpen ↦ refl | NoSuchSegment ↦ refl | NotTaken ↦ refl | TakenAlready ↦ refl | TwoTaken ↦ refl | SegmentFull ↦ refl | OnlyPlace ↦ refl | StaleDraft ↦ refl | NoStep ↦ refl | OutputShort ↦ refl | OutOfRange ↦ refl | PlaceTwice ↦ refl | NotBelonging ↦ refl ]
 
 -- nor have two refusals one number and place
-pub refusal_one : {A : Type 0} {x : Answer A} (r s : Refusal) → paper_refusal r ≡ x → paper_refusal s ≡ x → r ≡ s
-refusal_one r s a b =
-    let n : r.number ≡ s.number = cc in
-    let p : r.place ≡ s.place = cc in
-    λ i. record { number = n i; place = p i }
+refusal_one : (r s : Refusal) → number_of r.reason ≡ number_of s.reason → r.place ≡ s.place → r ≡ s
+refusal_one r s n p =
+    let q : r.reason ≡ s.reason = number_one r.reason s.reason n in
+    λ i. record { reason = q i; place = p i }
 
-pub verdict_one : {x : Answer Unit} (r s : Verdict) → paper_verdict r ≡ x → paper_verdict s ≡ x → r ≡ s
-verdict_one Accepted Accepted a b = refl
-verdict_one Accepted (Refused s) a b = apart cc
-verdict_one (Refused r) Accepted a b = apart cc
-verdict_one (Refused r) (Refused s) a b = ap Refused (refusal_one r s a b)
+-- nor two answers of the code one answer of the paper, if no two of their values are read alike
+pub result_by_same : {A B : Type 0} (f : A → B) {x : Answer B} (r s : Result A Refusal) → ((a b : A) → r ≡ Ok a → s ≡ Ok b → f a ≡ f b → a ≡ b) → answer_by f r ≡ x → answer_by f s ≡ x → r ≡ s
+result_by_same f (Ok v) (Ok w) one a b =
+    let e : f v ≡ f w = cc in
+    ap Ok (one v w refl refl e)
+result_by_same f (Ok v) (Err s) one a b = apart cc
+result_by_same f (Err r) (Ok w) one a b = apart cc
+result_by_same f (Err r) (Err s) one a b =
+    let n : number_of r.reason ≡ number_of s.reason = cc in
+    let p : r.place ≡ s.place = cc in
+    ap Err (refusal_one r s n p)
+
+pub result_by_one : {A B : Type 0} (f : A → B) → ((a b : A) → f a ≡ f b → a ≡ b) → {x : Answer B} (r s : Result A Refusal) → answer_by f r ≡ x → answer_by f s ≡ x → r ≡ s
+result_by_one f one r s a b = result_by_same f r s (λ v w p q. one v w) a b
+
+pub result_one : {A : Type 0} {x : Answer A} (r s : Result A Refusal) → answer_of r ≡ x → answer_of s ≡ x → r ≡ s
+result_one (Ok v) (Ok w) a b = cc
+result_one (Ok v) (Err s) a b = apart cc
+result_one (Err r) (Ok w) a b = apart cc
+result_one (Err r) (Err s) a b =
+    let n : number_of r.reason ≡ number_of s.reason = cc in
+    let p : r.place ≡ s.place = cc in
+    ap Err (refusal_one r s n p)

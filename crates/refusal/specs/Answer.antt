@@ -1,10 +1,9 @@
 -- What document 01 says of a call's answer: it is accepted with its values, or it is refused with a number and a place.
 use Rattle.std.specs.Prelude.{ℕ, Bool, cond}
-use Rattle.std.specs.Prelude.{Option, None, Some}
-use Rattle.refusal.specs.Numbers.{Reason, number_of}
+use Rattle.std.specs.Prelude.{Option, None, Some, Result, Ok, Err}
+use Rattle.refusal.specs.Numbers.{number_of}
+use Rattle.refusal.specs.declared.Reason.{Reason}
 use Rattle.refusal.specs.declared.Refusal.{Refusal}
-use Rattle.refusal.specs.declared.Verdict.{Verdict}
-use Rattle.refusal.specs.declared.Verdict.TheVariants.{Accepted, Refused}
 
 pub data Answer (A : Type 0) : Type 0 where
   ok : A → Answer A
@@ -30,11 +29,14 @@ and_then (no number place) f = no number place
 
 -- ---- the code's answers as this paper's
 abbrev pub refusal_for : Reason → ℕ → Refusal
-refusal_for reason place = record { number = number_of reason; place = place }
+refusal_for reason place = record { reason = reason; place = place }
 
-abbrev pub paper_refusal : {A : Type 0} → Refusal → Answer A
-paper_refusal r = no r.number r.place
+-- an answer whose value is read by f
+abbrev pub answer_by : {A B : Type 0} → (A → B) → Result A Refusal → Answer B
+answer_by f (Ok x) = ok (f x)
+answer_by f (Err r) = refused r.reason r.place
 
-abbrev pub paper_verdict : Verdict → Answer Unit
-paper_verdict Accepted = ok tt
-paper_verdict (Refused r) = paper_refusal r
+-- one whose value is the paper's own
+abbrev pub answer_of : {A : Type 0} → Result A Refusal → Answer A
+answer_of (Ok x) = ok x
+answer_of (Err r) = refused r.reason r.place

@@ -1,67 +1,98 @@
 // The numbered refusals of documents 01 and 02. No other crate writes a refusal's number.
 #![tactic(auto)]
 
-pub const WRONG_LENGTH: usize = 1;
+ghost use Rattle.std.specs.Prelude.{◌≡◌};
+ghost use Rattle.refusal.specs.Numbers.{number_of};
+ghost use Rattle.refusal.specs.Answer.{refusal_for};
 
-pub const WRONG_TEXT: usize = 2;
+// The rows of document 01's table, "Numbered refusals", with those that document 02 adds, each by its number.
+#[derive(Clone, Copy, Debug, PartialEq, Eq)]
+pub enum Reason {
+    // text or book length wrong
+    WrongLength = 1,
+    // byte, line length or last line end wrong
+    WrongText = 2,
+    // line 1
+    WrongHeading = 3,
+    // line 2
+    WrongIdentifier = 4,
+    // year, month, issue day, or purge has no minute
+    WrongTime = 5,
+    // block wrong
+    WrongBlock = 6,
+    // no segment
+    NoSegment = 7,
+    // no `$$`
+    NoEnd = 8,
+    // a ninth segment
+    NinthSegment = 9,
+    // storm identifier
+    WrongStorm = 10,
+    // over 120 places
+    TooManyPlaces = 11,
+    // book not sound
+    NotSound = 12,
+    // draft not 1..4 or not open
+    NoDraft = 13,
+    // four open
+    AllOpen = 14,
+    // no such segment
+    NoSuchSegment = 15,
+    // not taken
+    NotTaken = 16,
+    // taken already
+    TakenAlready = 17,
+    // two taken
+    TwoTaken = 18,
+    // adding an absent place to 120
+    SegmentFull = 19,
+    // removing the only place
+    OnlyPlace = 20,
+    // commit of a stale draft
+    StaleDraft = 21,
+    // no step to undo
+    NoStep = 22,
+    // output shorter than the block
+    OutputShort = 23,
+    // a place, DD, HH, MM or index handed in out of range
+    OutOfRange = 24,
+    // two elements of a block cover one place (document 02, R-3)
+    PlaceTwice = 25,
+    // the text does not belong to the book (document 02, R-1)
+    NotBelonging = 27,
+}
 
-pub const WRONG_HEADING: usize = 3;
+impl Reason {
+    // Its number in the table.
+    pub fn number(self) -> usize
+        ensures { result ≡ number_of self }
+    {
+        self as usize
+    }
 
-pub const WRONG_IDENTIFIER: usize = 4;
+    // The refusal for this reason at a place.
+    pub fn at(self, place: usize) -> Refusal
+        ensures { result ≡ refusal_for self place }
+    {
+        Refusal {
+            reason: self,
+            place,
+        }
+    }
+}
 
-pub const WRONG_TIME: usize = 5;
-
-pub const WRONG_BLOCK: usize = 6;
-
-pub const NO_SEGMENT: usize = 7;
-
-pub const NO_END: usize = 8;
-
-pub const NINTH_SEGMENT: usize = 9;
-
-pub const WRONG_STORM: usize = 10;
-
-pub const TOO_MANY_PLACES: usize = 11;
-
-pub const NOT_SOUND: usize = 12;
-
-pub const NO_DRAFT: usize = 13;
-
-pub const ALL_OPEN: usize = 14;
-
-pub const NO_SUCH_SEGMENT: usize = 15;
-
-pub const NOT_TAKEN: usize = 16;
-
-pub const TAKEN_ALREADY: usize = 17;
-
-pub const TWO_TAKEN: usize = 18;
-
-pub const SEGMENT_FULL: usize = 19;
-
-pub const ONLY_PLACE: usize = 20;
-
-pub const STALE_DRAFT: usize = 21;
-
-pub const NO_STEP: usize = 22;
-
-pub const OUTPUT_SHORT: usize = 23;
-
-pub const OUT_OF_RANGE: usize = 24;
-
-pub const PLACE_TWICE: usize = 25;
-
-pub const NOT_BELONGING: usize = 27;
-
-#[derive(Clone, Copy)]
+// Why a call is refused, and the place of the fault, or 0.
+#[derive(Clone, Copy, Debug, PartialEq, Eq)]
 pub struct Refusal {
-    pub number: usize,
+    pub reason: Reason,
     pub place: usize,
 }
 
-// The answer of a call that gives no value.
-#[derive(Clone, Copy)]
-pub enum Verdict {
-    Accepted,
-    Refused(Refusal),
+// Where a refusal has no place of its own, its place is 0.
+impl From<Reason> for Refusal {
+    ghost from_gives = { λ reason r. r ≡ refusal_for reason 0 };
+
+    fn from(reason: Reason) -> Refusal {
+        reason.at(0)
+    }
 }

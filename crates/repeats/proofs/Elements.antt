@@ -6,7 +6,6 @@ use mathlib.Core.List.{List, [], ◌∷◌}
 use mathlib.Core.Bool.{Bool, true, false, cond, ◌&&◌}
 use Rattle.std.specs.Prelude.{Option, None, Some}
 use lib.ListN.{length, drop}
-use lib.Dec.{leb, ltb}
 use borrow.Author.Tests.{le-leb, lt-leb, lt-ltb, le-ltb}
 use Rattle.laws.proofs.Tests.{by_order, impossible}
 use Rattle.codes.specs.Places.{prefixes}
@@ -14,7 +13,6 @@ use Rattle.codes.specs.Elements.{elements_from}
 use Rattle.codes.specs.Serving.{Low}
 use Rattle.codes.specs.Block.{Stretch, stretch_of, covered_before, twice_from, twice_at}
 use Rattle.codes.specs.Cursor.{step_at}
-use Rattle.calendar.specs.declared.Stamp.{Stamp}
 use Rattle.codes.specs.declared.Cursor.{Cursor}
 use Rattle.codes.specs.declared.Step.{Step}
 use Rattle.codes.specs.declared.Step.TheVariants.{Covers, Purge, Wrong}
@@ -81,11 +79,10 @@ module _ (text : List ℕ) (c : Cursor) (v : Reading text c) where
       none_from (suc k) = coverings_step k text c y (sym e) ∙ ends k
 
   -- the purge ends the block, and so does a wrong element
-  pub rest_purge : (t : Stamp) (place : ℕ) → Purge t place ≡ step_at text c → rest ≡ []
-  rest_purge t place e = rest_none (Purge t place) e (λ k. refl)
-
-  pub rest_wrong : (place : ℕ) → Wrong place ≡ step_at text c → rest ≡ []
-  rest_wrong place e = rest_none (Wrong place) e (λ k. refl)
+  pub rest_end : (y : Step) → y ≡ step_at text c → ((p n m : ℕ) (next : Cursor) → y ≡ Covers p n m next → ⊥) → rest ≡ []
+  rest_end (Covers p n m next) e other = absurd (other p n m next refl)
+  rest_end (Purge t place) e other = rest_none (Purge t place) e (λ k. refl)
+  rest_end (Wrong place) e other = rest_none (Wrong place) e (λ k. refl)
 
   module _ (p n m : ℕ) (next : Cursor) (e : Covers p n m next ≡ step_at text c) where
     pub ahead : Ahead text c p n m next
@@ -193,9 +190,3 @@ nearer_is next end p r e =
     by_order p end (λ h. let f : r ≡ next = e ∙ rw (lt-leb end p h) in omega arith)
     λ h. by_order p next (λ k. let f : r ≡ p = e ∙ rw (le-leb end p h, lt-ltb p next k) in omega arith)
     λ k. let f : r ≡ next = e ∙ rw (le-leb end p h, le-ltb p next k) in omega arith
-
-pub nearest_taken : (next end p : ℕ) → (leb end p && ltb p next) ≡ true → p ≡ nearest next end p
-nearest_taken next end p e = rw e
-
-pub nearest_left : (next end p : ℕ) → (leb end p && ltb p next) ≡ false → next ≡ nearest next end p
-nearest_left next end p e = rw e

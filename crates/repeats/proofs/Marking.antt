@@ -1,16 +1,16 @@
 -- Marks set word by word. Assumes nothing.
-use Prim.Native.Nat.{ℕ, ◌+◌, ◌-◌, ◌*◌, ◌/◌, ◌%◌, ◌≤◌, ◌<◌}
+use Prim.Native.Nat.{ℕ, ◌+◌, ◌*◌, ◌/◌, ◌%◌, ◌≤◌, ◌<◌}
 use native.Mathlib.Omega.{arith}
-use mathlib.Core.Path.{◌≡◌, refl, sym, ap, ◌∙◌}
+use mathlib.Core.Path.{◌≡◌, sym, ap, ◌∙◌}
 use mathlib.Core.List.{List}
-use mathlib.Core.Bool.{Bool, true, false, not, and-false}
+use mathlib.Core.Bool.{Bool, true, false, not}
 use lib.Bits.{bit_and, bit_or}
-use lib.Dec.{eqb, leb}
+use lib.Dec.{eqb}
 use lib.ListN.{length, get_or, set, length-set}
 use lib.Seq.{get_or-set_same, get_or-set_other}
-use borrow.Author.Tests.{eqb-true, eqb-false, not-true, not-false, le-leb, lt-leb, lt-ltb, le-ltb}
+use borrow.Author.Tests.{eqb-true, eqb-false, not-true, not-false}
 use Rattle.laws.proofs.Tests.{by, by_order, impossible, apart}
-use Rattle.repeats.specs.Marks.{window, from_up_to, bit_at, mark, Mask, Taken, Claimed, Claims, Noted}
+use Rattle.repeats.specs.Marks.{bit_at, mark, Mask, Taken, Claimed, Claims}
 use Rattle.repeats.proofs.Bits.{Common, or_set, or_kept, and_none, and_some, all_bits, mask_all, mask_both}
 
 -- ---- one word: its bits from f to t are the places from `at` to `to`
@@ -87,24 +87,6 @@ pub record Claiming (before : List ℕ) (from to : ℕ) (marks : List ℕ) (k ma
   pub bits : Mask mask (at % 64) 63
   pub so_far : Claimed before from at marks
 
-pub claiming_start : (l : List ℕ) (from to mask : ℕ) → from ≤ to → Mask mask (from % 64) 63 → Claiming l from to l (from / 64) mask
-claiming_start l from to mask h m =
-    record {
-      at = from;
-      low = omega arith;
-      high = h;
-      here = refl;
-      bits = m;
-      so_far =
-          record {
-            long = refl;
-            free = λ i a b. impossible (omega arith);
-            inside = λ i a b. impossible (omega arith);
-            below = λ i a. refl;
-            above = λ i a. refl;
-          };
-    }
-
 module _ (before : List ℕ) (from to : ℕ) (marks : List ℕ) (k mask : ℕ) (v : Claiming before from to marks k mask) (fits : to < 64 * length before) where
   pub claiming_word : k < length marks
   claiming_word = omega (arith, v.here, v.high, v.so_far.long)
@@ -139,27 +121,12 @@ module _ (before : List ℕ) (from to : ℕ) (marks : List ℕ) (k mask : ℕ) (
 
     -- the last word
     pub claiming_done : to / 64 ≤ k → (ends : ℕ) → Mask ends 0 (to % 64)
-        → hit ≡ not (eqb (bit_and (get_or marks k 0) (bit_and mask ends)) 0) → after ≡ set marks k (bit_or (get_or marks k 0) (bit_and mask ends))
-        → Claims before from to after hit
-    claiming_done h ends m eh ea =
+        → hit ≡ not (eqb (bit_and (get_or marks (to / 64) 0) (bit_and mask ends)) 0)
+        → after ≡ set marks (to / 64) (bit_or (get_or marks (to / 64) 0) (bit_and mask ends)) → Claims before from to after hit
+    claiming_done h ends m eh' ea' =
+        let same : to / 64 ≡ k = omega (arith, v.here, v.high) in
+        let eh : hit ≡ not (eqb (bit_and (get_or marks k 0) (bit_and mask ends)) 0) = rw same at eh' in
+        let ea : after ≡ set marks k (bit_or (get_or marks k 0) (bit_and mask ends)) = rw same at ea' in
         rw ea
         (word_claims marks k (bit_and mask ends) (v.at % 64) (to % 64) (mask_both mask ends (v.at % 64) (to % 64) v.bits m (omega arith))
         claiming_word before from v.at to v.so_far v.low v.high (omega (arith, v.here)) (omega (arith, v.here, v.high)) (omega arith) hit eh)
-
--- ---- one element
-module _ (low p n m : ℕ) (before : List ℕ) where
-  outside : from_up_to low (low + window) p ≡ false → Noted low p n m before before false
-  outside u = record { inside = λ y. apart cc; missed = λ f. refl; kept = λ f. refl }
-
-  pub noted_below : p < low → Noted low p n m before before false
-  noted_below h = outside (rw (lt-leb low p h))
-
-  module _ (l : low ≤ p) where
-    pub noted_above : window ≤ p - low → Noted low p n m before before false
-    noted_above h = outside (rw (le-ltb p (low + window) (omega arith), and-false (leb low p)))
-
-    pub noted_in : p - low < window → (from to : ℕ) → from ≡ (p - low) * 1000 + n → to ≡ (p - low) * 1000 + m
-        → (after : List ℕ) (hit : Bool) → Claims before from to after hit → Noted low p n m before after hit
-    noted_in h from to e q after hit v =
-        let u : from_up_to low (low + window) p ≡ true = rw (le-leb low p l, lt-ltb p (low + window) (omega arith)) in
-        record { inside = λ y. rw (← e, ← q) v; missed = λ f. apart cc; kept = λ f. apart cc }

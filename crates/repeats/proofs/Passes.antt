@@ -1,5 +1,5 @@
 -- The first repeating element under some prefixes; that under two sets of prefixes is the earlier one of both. Assumes nothing.
-use Prim.Native.Nat.{ℕ, ◌+◌, ◌≤◌, ◌<◌}
+use Prim.Native.Nat.{ℕ, ◌+◌, ◌≤◌}
 use native.Mathlib.Omega.{arith}
 use mathlib.Core.Path.{◌≡◌, refl, sym, ap, ap₂, ◌∙◌}
 use mathlib.Core.List.{List, [], ◌∷◌}
@@ -22,15 +22,6 @@ back : (x : ℕ) (a : Option ℕ) → ((y : ℕ) → a ≡ Some y → x ≤ y) �
 back x None h = refl
 back x (Some y) h =
     by_order x y (λ k. rw (lt-leb y x k)) (λ k. let e : x ≡ y = omega (arith, h y refl) in rw (le-leb y x k) (ap Some e))
-
-pub first_alone : (a b : Option ℕ) (x : ℕ) → a ≡ Some x → b ≡ None → Some x ≡ earlier a b
-first_alone a b x e q = rw (e, q)
-
-pub first_front : (a b : Option ℕ) (x y : ℕ) → a ≡ Some x → b ≡ Some y → x ≤ y → Some x ≡ earlier a b
-first_front a b x y e q h = rw (e, q, le-leb x y h)
-
-pub first_back : (a b : Option ℕ) (x y : ℕ) → a ≡ Some x → b ≡ Some y → y < x → Some y ≡ earlier a b
-first_back a b x y e q h = rw (e, q, lt-leb x y h)
 
 -- ---- two sets of prefixes
 -- what is found does not stand before the elements
@@ -84,9 +75,6 @@ joined low next p h =
 
 pub record Asked (text : List ℕ) (at low : ℕ) (best : Option ℕ) : Type 0 where
   pub so_far : best ≡ first_twice (from_up_to 0 low) [] (coverings text at)
-
-pub asked_start : (text : List ℕ) (at lowest : ℕ) → None ≡ first_twice (from_up_to 0 lowest) [] (coverings text at) → Asked text at lowest None
-asked_start text at lowest e = record { so_far = e }
 
 module _ (text : List ℕ) (at low : ℕ) (best : Option ℕ) (v : Asked text at low best) where
   pub asked_on : (next : ℕ) → low + window ≤ next → (found : Option ℕ) → found ≡ first_twice (from_up_to low next) [] (coverings text at)

@@ -11,7 +11,6 @@ use lib.Pow.{shr_le}
 use borrow.Author.Tests.{ltb-true, leb-true, le-leb, lt-leb, lt-ltb, le-ltb}
 use Rattle.laws.specs.Lists.{All, all_nil, all_cons}
 use Rattle.laws.proofs.Tests.{by, by_order, impossible, apart, and_left, and_right}
-use Rattle.calendar.specs.declared.Stamp.{Stamp}
 use Rattle.codes.specs.Places.{prefixes, place_of}
 use Rattle.codes.specs.Serving.{Low}
 use Rattle.codes.specs.Block.{Stretch, stretch_of, share, covered_before}
@@ -22,7 +21,7 @@ use Rattle.codes.proofs.Steps.{Ahead}
 use Rattle.codes.proofs.Twice.{Stretched, Both, before_gathered, gathered_before}
 use Rattle.repeats.specs.Marks.{window, window_words, from_up_to, bit_at, mark, Noted}
 use Rattle.repeats.specs.Passes.{cursor_behind, nearest, coverings, first_twice}
-use Rattle.repeats.proofs.Elements.{Reading, rest, start, reading_start, rest_purge, rest_wrong, ahead, reading_on}
+use Rattle.repeats.proofs.Elements.{Reading, start, reading_start, rest_end, ahead, reading_on}
 use Rattle.repeats.proofs.Elements.{Seeks, seeks_none, seeks_here, seeks_on, Nearer, nearer_is}
 
 -- ---- a stretch repeats a place exactly if one of its places is covered
@@ -188,21 +187,9 @@ passing_start text at low h =
     }
 
 module _ (text : List ℕ) (at low : ℕ) (c : Cursor) (next : ℕ) (marks : List ℕ) (v : Passing text at low c next marks) where
-  pub passing_long : length marks ≡ window_words
-  passing_long = v.marked.long
-
-  pub passing_from : low + window ≤ next
-  passing_from = v.from
-
   module _ (y : Step) (e : y ≡ step_at text c) where
-    seeks_nothing : rest text c v.reading ≡ [] → None ≡ first_twice (from_up_to low next) [] (coverings text at)
-    seeks_nothing z = seeks_none text at c v.reading v.before (from_up_to low next) (v.same next v.from (omega arith)) z
-
-    pub passing_purge : (t : Stamp) (place : ℕ) → y ≡ Step.Purge t place → None ≡ first_twice (from_up_to low next) [] (coverings text at)
-    passing_purge t place q = seeks_nothing (rest_purge text c v.reading t place (sym q ∙ e))
-
-    pub passing_wrong : (place : ℕ) → y ≡ Step.Wrong place → None ≡ first_twice (from_up_to low next) [] (coverings text at)
-    passing_wrong place q = seeks_nothing (rest_wrong text c v.reading place (sym q ∙ e))
+    pub passing_end : ((p n m : ℕ) (past : Cursor) → y ≡ Step.Covers p n m past → ⊥) → None ≡ first_twice (from_up_to low next) [] (coverings text at)
+    passing_end other = seeks_none text at c v.reading v.before (from_up_to low next) (v.same next v.from (omega arith)) (rest_end text c v.reading y e other)
 
     module _ (p n m : ℕ) (past : Cursor) (q : y ≡ Step.Covers p n m past) where
       this_ahead : Ahead text c p n m past

@@ -13,7 +13,6 @@ use mir.Syntax.{w64}
 use Rattle.laws.specs.Lists.{All, all_nil, all_cons}
 use Rattle.laws.proofs.Tests.{and_left, and_right}
 use Rattle.laws.proofs.Lists.{all_map}
-use Rattle.calendar.specs.declared.Stamp.{Stamp}
 use Rattle.codes.specs.Places.{prefixes, places_end}
 use Rattle.codes.specs.Block.{Stretch, stretch_of, share, covered_before, twice_at}
 use Rattle.codes.specs.Cursor.{step_at}
@@ -22,7 +21,7 @@ use Rattle.codes.specs.declared.Step.{Step}
 use Rattle.codes.proofs.Steps.{Ahead}
 use Rattle.repeats.specs.Marks.{window, from_up_to}
 use Rattle.repeats.specs.Passes.{cursor_behind, nearest, Covering, stretch, coverings, Way, up, down, beyond, edge_of, onward, rising, falling, first_twice}
-use Rattle.repeats.proofs.Elements.{Reading, rest, start, reading_start, rest_purge, rest_wrong, rest_covers, ahead, reading_on}
+use Rattle.repeats.proofs.Elements.{Reading, rest, start, reading_start, rest_end, rest_covers, ahead, reading_on}
 use Rattle.repeats.proofs.Elements.{Seeks, seeks_none, seeks_on}
 use Rattle.repeats.proofs.Elements.{Ordered, ordered_nil, ordered_cons, coverings_ordered, first_all, Nearer, nearer_is}
 
@@ -101,34 +100,15 @@ outlined_start text at = record { reading = reading_start text at; rise = refl; 
 
 module _ (text : List ℕ) (at : ℕ) (c : Cursor) (rises falls : Bool) (high low lowest : ℕ)
     (v : Outlined text at c rises falls high low lowest) (y : Step) (e : y ≡ step_at text c) where
-  rise_none : rest text c v.reading ≡ [] → rises ≡ rising (coverings text at)
-  rise_none z = onward_none text at c v.reading up 0 rises high v.rise z
+  module _ (other : (p n m : ℕ) (next : Cursor) → y ≡ Step.Covers p n m next → ⊥) where
+    pub rise_end : rises ≡ rising (coverings text at)
+    rise_end = onward_none text at c v.reading up 0 rises high v.rise (rest_end text c v.reading y e other)
 
-  fall_none : rest text c v.reading ≡ [] → falls ≡ falling (coverings text at)
-  fall_none z = onward_none text at c v.reading down places_end falls low v.fall z
+    pub fall_end : falls ≡ falling (coverings text at)
+    fall_end = onward_none text at c v.reading down places_end falls low v.fall (rest_end text c v.reading y e other)
 
-  quiet_none : rest text c v.reading ≡ [] → None ≡ first_twice (from_up_to 0 lowest) [] (coverings text at)
-  quiet_none z = seeks_none text at c v.reading v.before (from_up_to 0 lowest) (v.quiet lowest (omega arith)) z
-
-  module _ (t : Stamp) (place : ℕ) (q : y ≡ Step.Purge t place) where
-    pub rise_purge : rises ≡ rising (coverings text at)
-    rise_purge = rise_none (rest_purge text c v.reading t place (sym q ∙ e))
-
-    pub fall_purge : falls ≡ falling (coverings text at)
-    fall_purge = fall_none (rest_purge text c v.reading t place (sym q ∙ e))
-
-    pub quiet_purge : None ≡ first_twice (from_up_to 0 lowest) [] (coverings text at)
-    quiet_purge = quiet_none (rest_purge text c v.reading t place (sym q ∙ e))
-
-  module _ (place : ℕ) (q : y ≡ Step.Wrong place) where
-    pub rise_wrong : rises ≡ rising (coverings text at)
-    rise_wrong = rise_none (rest_wrong text c v.reading place (sym q ∙ e))
-
-    pub fall_wrong : falls ≡ falling (coverings text at)
-    fall_wrong = fall_none (rest_wrong text c v.reading place (sym q ∙ e))
-
-    pub quiet_wrong : None ≡ first_twice (from_up_to 0 lowest) [] (coverings text at)
-    quiet_wrong = quiet_none (rest_wrong text c v.reading place (sym q ∙ e))
+    pub quiet_end : None ≡ first_twice (from_up_to 0 lowest) [] (coverings text at)
+    quiet_end = seeks_none text at c v.reading v.before (from_up_to 0 lowest) (v.quiet lowest (omega arith)) (rest_end text c v.reading y e other)
 
   module _ (p n m : ℕ) (next : Cursor) (q : y ≡ Step.Covers p n m next) where
     this_ahead : Ahead text c p n m next

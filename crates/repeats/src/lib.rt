@@ -44,14 +44,12 @@ const WORDS: usize = 4235;
 // Past the end of every window: where no prefix is left.
 const PAST: usize = PREFIXES + WINDOW;
 
-const ALL_BITS: u64 = 18446744073709551615;
-
 // The bits of a word from one up.
 fn bits_from(from: usize) -> u64
     requires { from < 64 }
     ensures { Mask result from 63 }
 {
-    ALL_BITS << from
+    u64::MAX << from
 }
 
 // The bits of a word up to one.
@@ -59,7 +57,7 @@ fn bits_to(to: usize) -> u64
     requires { to < 64 }
     ensures { Mask result 0 to }
 {
-    ALL_BITS >> (63 - to)
+    u64::MAX >> (63 - to)
 }
 
 // Marks the places of a word that a mask has, and says whether one of them was marked already.
@@ -79,19 +77,14 @@ fn claim(marks: &mut [u64], from: usize, to: usize) -> bool
     requires to_bound { to < 64 * length marks.old }
     ensures { Claims marks.old from to marks.new result }
 {
-    let last = to / 64;
-    let mut k = from / 64;
     let mut mask = bits_from(from % 64);
-    while k < last {
-        let hit = claim_word(marks, k, mask);
-        if hit {
+    for k in from / 64..to / 64 {
+        if claim_word(marks, k, mask) {
             return true;
         }
-        mask = ALL_BITS;
-        k += 1;
+        mask = u64::MAX;
     }
-    let ends = bits_to(to % 64);
-    claim_word(marks, k, mask & ends)
+    claim_word(marks, to / 64, mask & bits_to(to % 64))
 }
 
 // Marks the places of an element whose prefix is in the window from `low` up, and says whether one of them was marked already.
@@ -100,26 +93,22 @@ fn note(marks: &mut [u64], low: usize, prefix: usize, first: usize, last: usize)
     requires low { Low prefix first last }
     ensures { Noted low prefix first last marks.old marks.new result }
 {
-    if prefix < low {
+    if prefix < low || low + WINDOW <= prefix {
         return false;
     }
-    let k = prefix - low;
-    if WINDOW <= k {
-        return false;
-    }
-    let from = k * PLACES + first;
-    let to = k * PLACES + last;
-    claim(marks, from, to)
+    let base = (prefix - low) * PLACES;
+    claim(marks, base + first, base + last)
 }
 
 // The nearest prefix from `end` on, of those so far and this one.
 fn nearer(next: usize, end: usize, prefix: usize) -> usize
     ensures { result ≡ nearest next end prefix }
 {
-    if (end <= prefix) & (prefix < next) {
-        return prefix;
+    if (end..next).contains(&prefix) {
+        prefix
+    } else {
+        next
     }
-    next
 }
 
 // The first of the elements in the window from the prefix `low` up that covers a place already covered. No element stands under a prefix
@@ -131,51 +120,33 @@ fn twice_under(text: &[u8], at: usize, low: usize) -> Pass
 {
     let end = low + WINDOW;
     let mut next = PAST;
-    let mut cursor = Cursor {
-        at,
-        last: None,
-    };
+    let mut cursor = Cursor { at, last: None };
     let mut marks: [u64; WORDS] = [0; WORDS];
-    loop {
-        let here = cursor.at;
-        let step = cursor.step(text);
-        match step {
-            Step::Covers(prefix, first, last, after) => {
-                cursor = Cursor {
-                    at: after.at,
-                    last: Some(prefix),
-                };
-                let hit = note(&mut marks, low, prefix, first, last);
-                if hit {
-                    // The elements behind it are not read: their prefixes are left to the windows that follow.
-                    let found = Some(here);
-                    return Pass { found, next: end };
-                }
-                next = nearer(next, end, prefix);
-            }
-            Step::Purge(_, _) => {
-                let found = None;
-                return Pass { found, next };
-            }
-            Step::Wrong(_) => {
-                let found = None;
-                return Pass { found, next };
-            }
+    while let Step::Covers(prefix, first, last, after) = cursor.step(text) {
+        if note(&mut marks, low, prefix, first, last) {
+            // The elements behind it are not read: their prefixes are left to the windows that follow.
+            return Pass {
+                found: Some(cursor.at),
+                next: end,
+            };
         }
+        next = nearer(next, end, prefix);
+        cursor = Cursor {
+            at: after.at,
+            last: Some(prefix),
+        };
     }
+    Pass { found: None, next }
 }
 
 // The one that comes first in the text.
 fn first_of(a: Option<usize>, b: Option<usize>) -> Option<usize>
     ensures { result ≡ earlier a b }
 {
-    let Some(x) = a else {
-        return b;
-    };
-    let Some(y) = b else {
-        return a;
-    };
-    if x <= y { a } else { b }
+    match (a, b) {
+        (Some(x), Some(y)) => Some(x.min(y)),
+        _ => a.or(b),
+    }
 }
 
 // A first reading of the block: most need no other.
@@ -192,35 +163,22 @@ fn survey(text: &[u8], at: usize) -> Outline
     // One more than the highest place so far while they rise, and the lowest one while they fall.
     let mut high: usize = 0;
     let mut low = PLACES_END;
-    let mut cursor = Cursor {
-        at,
-        last: None,
-    };
-    loop {
-        let step = cursor.step(text);
-        match step {
-            Step::Covers(prefix, first, last, after) => {
-                cursor = Cursor {
-                    at: after.at,
-                    last: Some(prefix),
-                };
-                let base = prefix * PLACES;
-                let from = base + first;
-                let to = base + last;
-                seen.rises = seen.rises & (high <= from);
-                seen.falls = seen.falls & (to < low);
-                seen.lowest = nearer(seen.lowest, 0, prefix);
-                high = to + 1;
-                low = from;
-            }
-            Step::Purge(_, _) => {
-                return seen;
-            }
-            Step::Wrong(_) => {
-                return seen;
-            }
-        }
+    let mut cursor = Cursor { at, last: None };
+    while let Step::Covers(prefix, first, last, after) = cursor.step(text) {
+        let base = prefix * PLACES;
+        let from = base + first;
+        let to = base + last;
+        seen.rises &= high <= from;
+        seen.falls &= to < low;
+        seen.lowest = nearer(seen.lowest, 0, prefix);
+        high = to + 1;
+        low = from;
+        cursor = Cursor {
+            at: after.at,
+            last: Some(prefix),
+        };
     }
+    seen
 }
 
 // The first element of the block at a place of the text that covers a place already covered. Most blocks rise, and some
@@ -229,15 +187,14 @@ pub fn first_twice(text: &[u8], at: usize) -> Option<usize>
     ensures { result ≡ twice_at text.now at }
 {
     let outline = survey(text, at);
-    if outline.rises | outline.falls {
+    if outline.rises || outline.falls {
         return None;
     }
     let mut best = None;
     let mut low = outline.lowest;
     while low < PREFIXES {
         let pass = twice_under(text, at, low);
-        let found = pass.found;
-        best = first_of(best, found);
+        best = first_of(best, pass.found);
         low = pass.next;
     }
     best

@@ -9,10 +9,9 @@ ghost use Rattle.replay.specs.Lines.{weighted_sum, text_asked, replaced, after_l
 
 use calendar::Stamp;
 use layout::{Changed, Reply};
-use refusal::{Refusal, Verdict};
+use refusal::{Reason, Refusal};
 use std::io;
 use std::io::Write;
-use writing::Written;
 
 // The most bytes of input, and the bytes of a case's buffer and of a book.
 const INPUT: usize = 1048576;
@@ -155,10 +154,6 @@ fn read_opening(input: &[u8], at: usize) -> Option<Source>
 
 // ---- answers
 // A write that fails ends the program with its error: no line is done after it, and what was done stays done.
-fn refuse<W: Write>(to: &mut W, number: usize) -> io::Result<()> {
-    printing::say_refusal(to, Refusal { number, place: 0 })
-}
-
 // The answer to a line that is no call.
 fn say_unknown<W: Write>(to: &mut W) -> io::Result<()> {
     printing::say(to, b"?\n")
@@ -198,21 +193,21 @@ fn say_was<W: Write>(to: &mut W, there: bool) -> io::Result<()> {
     }
 }
 
-fn say_reply<W: Write>(to: &mut W, r: Reply) -> io::Result<()> {
-    match r {
-        Reply::Draft(d) => say_value(to, b"D", d),
-        Reply::Done => printing::say(to, b"K\n"),
-        Reply::Number(n) => say_value(to, b"V", n),
-        Reply::Was(there) => say_was(to, there),
-        Reply::Segments(c) => say_changed(to, c),
-        Reply::Refused(r) => printing::say_refusal(to, r),
+fn say_reply<W: Write>(to: &mut W, reply: Result<Reply, Refusal>) -> io::Result<()> {
+    match reply {
+        Ok(Reply::Draft(d)) => say_value(to, b"D", d),
+        Ok(Reply::Done) => printing::say(to, b"K\n"),
+        Ok(Reply::Number(n)) => say_value(to, b"V", n),
+        Ok(Reply::Was(there)) => say_was(to, there),
+        Ok(Reply::Segments(c)) => say_changed(to, c),
+        Err(r) => printing::say_refusal(to, r),
     }
 }
 
-fn say_verdict<W: Write>(to: &mut W, v: Verdict) -> io::Result<()> {
-    match v {
-        Verdict::Accepted => printing::say(to, b"K\n"),
-        Verdict::Refused(r) => printing::say_refusal(to, r),
+fn say_verdict<W: Write>(to: &mut W, verdict: Result<(), Refusal>) -> io::Result<()> {
+    match verdict {
+        Ok(()) => printing::say(to, b"K\n"),
+        Err(r) => printing::say_refusal(to, r),
     }
 }
 
@@ -310,7 +305,7 @@ fn read_request(line: Line) -> Option<Request> {
 }
 
 // Does a call on a book.
-fn answer(book: &mut [u8], call: Call) -> Reply {
+fn answer(book: &mut [u8], call: Call) -> Result<Reply, Refusal> {
     match call {
         Call::Open => drafts::open(book),
         Call::Take(d, s) => drafts::take(book, d, s),
@@ -329,14 +324,14 @@ fn answer(book: &mut [u8], call: Call) -> Reply {
 // Writes a segment into the output, and prints all of it.
 fn write_into<W: Write>(to: &mut W, book: &[u8], s: usize, out: &mut [u8]) -> io::Result<()> {
     match making::write(book, s, out) {
-        Written::Length(n) => {
+        Ok(n) => {
             printing::say(to, b"W ")?;
             printing::say_number(to, n)?;
             printing::say(to, b" ")?;
             say_hex(to, out)?;
             printing::say(to, b"\n")
         }
-        Written::Refused(r) => printing::say_refusal(to, r),
+        Err(r) => printing::say_refusal(to, r),
     }
 }
 
@@ -349,27 +344,6 @@ fn write_line<W: Write>(to: &mut W, book: &[u8], s: usize, room: usize) -> io::R
 }
 
 // The place and length in the bulletin of a segment that a view gives.
-fn say_view<W: Write>(
-    to: &mut W,
-    text: &[u8],
-    year: usize,
-    month: usize,
-    n: usize,
-) -> io::Result<()> {
-    let segments = bulletin::read(text, year, month).segments;
-    let held = segments.held;
-    if n < 1 {
-        return Ok(());
-    }
-    if 8 < n {
-        return Ok(());
-    }
-    printing::say(to, b"G ")?;
-    printing::say_number(to, held[n - 1].start)?;
-    say_next(to, bulletin::view(text, year, month, n).len())?;
-    printing::say(to, b"\n")
-}
-
 fn view_line<W: Write>(
     to: &mut W,
     text: &[u8],
@@ -377,9 +351,14 @@ fn view_line<W: Write>(
     month: usize,
     n: usize,
 ) -> io::Result<()> {
-    match bulletin::view_answer(text, year, month, n) {
-        Verdict::Refused(r) => printing::say_refusal(to, r),
-        Verdict::Accepted => say_view(to, text, year, month, n),
+    match bulletin::find_segment(text, year, month, n) {
+        Err(r) => printing::say_refusal(to, r),
+        Ok(segment) => {
+            printing::say(to, b"G ")?;
+            printing::say_number(to, segment.start)?;
+            say_next(to, bulletin::view(text, year, month, n).len())?;
+            printing::say(to, b"\n")
+        }
     }
 }
 
@@ -413,13 +392,13 @@ fn write_edited_into<W: Write>(
     requires { length out.old ≤ 20000 }
 {
     match sending::write_edited(text, book, out) {
-        Written::Length(n) => {
+        Ok(n) => {
             printing::say(to, b"F ")?;
             printing::say_number(to, n)?;
             say_next(to, total(out))?;
             printing::say(to, b"\n")
         }
-        Written::Refused(r) => printing::say_refusal(to, r),
+        Err(r) => printing::say_refusal(to, r),
     }
 }
 
@@ -631,7 +610,7 @@ fn run_all<W: Write>(to: &mut W, input: &[u8]) -> io::Result<()> {
     let mut at = 0;
     loop {
         let Some(source) = read_opening(input, at) else {
-            return refuse(to, refusal::OUT_OF_RANGE);
+            return printing::say_refusal(to, Reason::OutOfRange.at(0));
         };
         at = run(to, input, source)?;
         if input.len() <= at {
@@ -650,7 +629,7 @@ fn main(rt: HostRuntime) -> io::Result<()> {
     let got = printing::read_full(&mut rt.reader(), &mut input)?;
     let mut to = io::writer(&rt);
     if INPUT < got {
-        return refuse(&mut to, refusal::WRONG_LENGTH);
+        return printing::say_refusal(&mut to, Reason::WrongLength.at(0));
     }
     run_all(&mut to, &input[0..got])
 }

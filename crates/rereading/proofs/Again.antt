@@ -8,7 +8,7 @@ use lib.ListN.{length, length-map}
 use borrow.Author.Tests.{eq-eqb, le-leb}
 use Rattle.laws.proofs.Lookups.{some_same}
 use Rattle.laws.specs.Lists.{All}
-use Rattle.refusal.specs.Numbers.{wrong_length}
+use Rattle.refusal.specs.declared.Reason.TheVariants.{WrongLength}
 use Rattle.refusal.specs.Answer.{ok, and_then}
 use Rattle.calendar.specs.Calendar.{date_of}
 use Rattle.calendar.specs.declared.Date.{Date}
@@ -52,7 +52,7 @@ own_edited text year month r blocks e forms given =
 -- a text that reads has its length
 read_long : (text : List ℕ) (year month : ℕ) (r : Bulletin) → read_bulletin text year month ≡ ok r → is_length text ≡ true
 unfolding read_bulletin
-read_long text year month r e = by_then _ _ r (λ _ long _. must_true (is_length text) wrong_length 0 long) e
+read_long text year month r e = by_then _ _ r (λ _ long _. must_true (is_length text) WrongLength 0 long) e
 
 fitting_is : (room : ℕ) (out : List ℕ) → length out ≤ room → fitting room out ≡ ok out
 unfolding fitting

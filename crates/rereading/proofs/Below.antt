@@ -9,7 +9,7 @@ use lib.ListN.{length, length-append, length-map}
 use Rattle.laws.proofs.Tests.{by, apart, impossible}
 use Rattle.laws.proofs.Lists.{all_append, all_left, all_right, all_head, all_tail}
 use Rattle.laws.specs.Lists.{All, all_nil, all_cons}
-use Rattle.refusal.specs.Numbers.{wrong_block}
+use Rattle.refusal.specs.declared.Reason.TheVariants.{WrongBlock}
 use Rattle.refusal.specs.Answer.{Answer, ok, refused, and_then}
 use Rattle.lines.specs.Lines.{body_of, blank, opens, Line, lines_at}
 use Rattle.lines.specs.declared.End.{End}
@@ -197,7 +197,7 @@ module _ (issue : ℕ) (one two : List ℕ) where
         (λ b. closed_below p ps f t b (seek closes ps) (ap (segments_from most text issue) (ok_one _ ls (rw b at e)) ∙ h))
         λ b. by (opens (body_of p))
         (λ o. open_below (p ∷ ps) f t o (ap (segments_from most text issue) (ok_one _ ls (rw (b, o) at e)) ∙ h))
-        λ o. let w : refused wrong_block third ≡ ok ls = rw (b, o) at e in apart cc
+        λ o. let w : refused WrongBlock third ≡ ok ls = rw (b, o) at e in apart cc
 
   pub below_edited : (text : List ℕ) (ps : List (List ℕ)) (gs : List Segment) (ends : List End) (cs : List Content) (blocks : List (List ℕ)) → All Fair ps
       → text ≡ in_order (one ∷ two ∷ ps) → segments_of text issue (below ps) ≡ ok gs → length cs ≡ length gs → NewBlocks issue ends cs blocks

@@ -10,7 +10,7 @@ use borrow.Author.Tests.{ltb-false, le-ltb}
 use Rattle.laws.proofs.Tests.{by, apart, and_left, and_right}
 use Rattle.laws.proofs.Lists.{all_map}
 use Rattle.laws.specs.Lists.{All, all_nil, all_cons}
-use Rattle.refusal.specs.Numbers.{wrong_text}
+use Rattle.refusal.specs.declared.Reason.TheVariants.{WrongText}
 use Rattle.refusal.specs.Answer.{ok, refused_at}
 use Rattle.lines.specs.Bytes.{lf, word, begins}
 use Rattle.lines.specs.Lines.{pieces, body_of, lines_at, lines_of}
@@ -93,7 +93,7 @@ least_none None b e = (refl, e)
 least_none (Some m) None e = apart cc
 least_none (Some m) (Some n) e = apart cc
 
-not_refused : (o : Option ℕ) → refused_at wrong_text o ≡ ok tt → o ≡ None
+not_refused : (o : Option ℕ) → refused_at WrongText o ≡ ok tt → o ≡ None
 not_refused None e = refl
 not_refused (Some m) e = apart cc
 

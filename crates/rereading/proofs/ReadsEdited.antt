@@ -10,7 +10,7 @@ use borrow.Author.Tests.{le-leb}
 use Rattle.laws.proofs.Tests.{apart}
 use Rattle.laws.proofs.Lists.{all_head, all_tail, all_each}
 use Rattle.laws.specs.Lists.{All, all_nil, all_cons}
-use Rattle.refusal.specs.Numbers.{wrong_time}
+use Rattle.refusal.specs.declared.Reason.TheVariants.{WrongTime}
 use Rattle.refusal.specs.Answer.{ok, must, and_then}
 use Rattle.lines.specs.Bytes.{lf}
 use Rattle.lines.specs.Lines.{pieces, lines_at, lines_of}
@@ -55,7 +55,7 @@ record ReplacedText (text : List ℕ) (year month : ℕ) (r : Bulletin) (ends : 
   ordered : Ordered 0 r.segments
   back : length (edited text r.segments blocks) ≤ text_most → NewReading (edited text r.segments blocks) year month r ends cs blocks
 
-module _ (year month : ℕ) (h : Heading) (n issue : ℕ) (s : Option StormName) (known : must (is_issue_month year month) wrong_time 0 ≡ ok tt)
+module _ (year month : ℕ) (h : Heading) (n issue : ℕ) (s : Option StormName) (known : must (is_issue_month year month) WrongTime 0 ≡ ok tt)
     (dated : issued (minute_of (record { year = year; month = month; stamp = h.stamp })) ≡ ok issue) where
   abbrev bulletin : List Segment → Bulletin
   bulletin gs = record { heading = h; identifier = n; issue = issue; storm = s; segments = gs }

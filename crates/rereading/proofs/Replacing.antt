@@ -8,7 +8,7 @@ use lib.ListN.{length, length-append}
 use Rattle.laws.proofs.Tests.{apart, impossible}
 use Rattle.laws.proofs.Lists.{all_append, all_right, all_tail}
 use Rattle.laws.specs.Lists.{All}
-use Rattle.refusal.specs.Numbers.{no_end, ninth_segment}
+use Rattle.refusal.specs.declared.Reason.TheVariants.{NoEnd, NinthSegment}
 use Rattle.refusal.specs.Answer.{ok, refused}
 use Rattle.lines.specs.Lines.{body_of, ended_by, is_end, opens, Line, lines_at}
 use Rattle.lines.specs.declared.End.{End}
@@ -106,7 +106,7 @@ module _ (text : List ℕ) (issue : ℕ) where
     ended_here c past bs rest q ib eb (missing a) e =
         let z : from_first is_end (lines_at (length front₁) (p ∷ xs)) ≡ [] =
         ap (λ (x : List (List ℕ)). from_first is_end (lines_at (length front₁) x)) q ∙ pass_all is_end (length front₁) (all_append (inert_no_end ib) a) in
-        let w : refused no_end (length front₁) ≡ ok gs = ap (runs_to line₁ past c (segments_from n text issue)) (sym z) ∙ e in
+        let w : refused NoEnd (length front₁) ≡ ok gs = ap (runs_to line₁ past c (segments_from n text issue)) (sym z) ∙ e in
         apart cc
     ended_here c past bs rest q ib eb (found ms d after er nm nd) e =
         let k : ℕ = length front₁ + length (in_order bs) + length (in_order ms) in
@@ -155,7 +155,7 @@ module _ (text : List ℕ) (issue : ℕ) where
   unfolding segments_from lines_at
   ninth_no at fs p xs gs nf o e =
       let k : ℕ = at + length (in_order fs) in
-      let w : refused ninth_segment k ≡ ok gs = ap ninth (sym (pass opens at nf (p ∷ xs) ∙ stop opens k p xs o)) ∙ e in
+      let w : refused NinthSegment k ≡ ok gs = ap ninth (sym (pass opens at nf (p ∷ xs) ∙ stop opens k p xs o)) ∙ e in
       apart cc
 
   -- ---- by the first line that opens a block, if there is one

@@ -8,7 +8,7 @@ use lib.Dec.{ltb}
 use Rattle.laws.proofs.Tests.{by, apart, either_way}
 use Rattle.laws.proofs.Lists.{all_tail, all_map, all_each}
 use Rattle.laws.specs.Lists.{All, all_nil, all_cons}
-use Rattle.refusal.specs.Numbers.{wrong_block}
+use Rattle.refusal.specs.declared.Reason.TheVariants.{WrongBlock}
 use Rattle.refusal.specs.Answer.{Answer, ok, refused}
 use Rattle.lines.specs.Bytes.{lf}
 use Rattle.lines.specs.Lines.{pieces, ends_line, blank, opens, is_end, Line, lines_of}
@@ -98,7 +98,7 @@ module _ (P : Line → Type 0) where
     all_third past stop (l ∷ ls) ms a b e =
         by (blank l.body) (λ p. subst (All P) (ok_one past ms (rw p at e)) a)
         λ p. by (opens l.body) (λ q. subst (All P) (ok_one (l ∷ ls) ms (rw (p, q) at e)) b)
-        λ q. let z : refused wrong_block l.start ≡ ok ms = rw (p, q) at e in apart cc
+        λ q. let z : refused WrongBlock l.start ≡ ok ms = rw (p, q) at e in apart cc
 
     all_first : (stop : ℕ) (ls ms : List Line) → All P ls → first_lines stop ls ≡ ok ms → All P ms
     unfolding first_lines

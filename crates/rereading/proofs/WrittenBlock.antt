@@ -11,7 +11,7 @@ use borrow.Author.Tests.{le-leb}
 use Rattle.laws.proofs.Tests.{by, apart, impossible, and_left, and_right}
 use Rattle.laws.proofs.Lists.{all_append}
 use Rattle.laws.specs.Lists.{All, all_nil, all_cons}
-use Rattle.refusal.specs.Numbers.{out_of_range}
+use Rattle.refusal.specs.declared.Reason.TheVariants.{OutOfRange}
 use Rattle.refusal.specs.Answer.{ok, refused, and_then}
 use Rattle.lines.specs.Bytes.{lf}
 use Rattle.lines.specs.Lines.{end_bytes, ends_line, ended_by, pieces, body_of, opens, Line, lines_at, lines_from}
@@ -247,7 +247,7 @@ pub record GivenLines (end : End) (b : List ℕ) : Type 0 where
 pub given_lines : (end : End) → ends_line end ≡ true → (ps : List ℕ) (minute : ℕ) (b : List ℕ) → written_block end ps minute ≡ ok b → GivenLines end b
 unfolding written_block
 given_lines end so ps minute b e =
-    by (is_set ps) (λ q. dated q (date_of minute) refl (rw q at e)) (λ q. let z : refused out_of_range 0 ≡ ok b = rw q at e in apart cc)
+    by (is_set ps) (λ q. dated q (date_of minute) refl (rw q at e)) (λ q. let z : refused OutOfRange 0 ≡ ok b = rw q at e in apart cc)
   where
     dated : is_set ps ≡ true → (o : Option Date) → date_of minute ≡ o → dated_block end ps o ≡ ok b → GivenLines end b
     dated q None f g = apart cc

@@ -2,7 +2,7 @@
 use Rattle.std.specs.Prelude.{ℕ, ◌≤◌, ◌<◌, suc, ◌≡◌, true, false, ◌&&◌, List, map, length, eqb}
 use Rattle.std.specs.Prelude.{Some}
 use Rattle.laws.specs.Lists.{All}
-use Rattle.refusal.specs.Numbers.{wrong_length, not_sound, output_short, not_belonging}
+use Rattle.refusal.specs.declared.Reason.TheVariants.{WrongLength, NotSound, OutputShort, NotBelonging}
 use Rattle.refusal.specs.Answer.{Answer, ok, no, refused}
 use Rattle.lines.specs.Lines.{Line, lines_of}
 use Rattle.lines.specs.Spans.{part}
@@ -90,17 +90,17 @@ pub record EditedText (text l out : List ℕ) : Type 0 where
 -- "Refusals: 1 for either length, 12, reading's own, 27 (does not belong), 23 last": what the call answers, and no other number
 pub data EditedAnswer (text l : List ℕ) (room : ℕ) : Answer (List ℕ) → Type 0 where
   -- 1
-  other_length : (is_length text && eqb (length l) book_length) ≡ false → EditedAnswer text l room (refused wrong_length 0)
+  other_length : (is_length text && eqb (length l) book_length) ≡ false → EditedAnswer text l room (refused WrongLength 0)
   -- 12
-  unsound : is_sound l ≡ false → EditedAnswer text l room (refused not_sound 0)
+  unsound : is_sound l ≡ false → EditedAnswer text l room (refused NotSound 0)
   -- reading's own
   unreadable : (d : Date) (number place : ℕ) → date_of (book_of l).issue ≡ Some d → read_bulletin text d.year d.month ≡ no number place
       → EditedAnswer text l room (no number place)
   -- 27
   stranger : (d : Date) (r : Bulletin) → date_of (book_of l).issue ≡ Some d → read_bulletin text d.year d.month ≡ ok r → belongs (book_of l) r ≡ false
-      → EditedAnswer text l room (refused not_belonging 0)
+      → EditedAnswer text l room (refused NotBelonging 0)
   -- 23
-  no_room : (out : List ℕ) → EditedText text l out → room < length out → EditedAnswer text l room (refused output_short 0)
+  no_room : (out : List ℕ) → EditedText text l out → room < length out → EditedAnswer text l room (refused OutputShort 0)
   -- accepted
   written_out : (out : List ℕ) → EditedText text l out → length out ≤ room → EditedAnswer text l room (ok out)
 

@@ -12,7 +12,7 @@ use lib.Dec.{leb}
 use borrow.Author.Tests.{le-leb, leb-true}
 use Rattle.laws.proofs.Tests.{by, apart}
 use Rattle.laws.proofs.Lists.{all_at}
-use Rattle.refusal.specs.Numbers.{too_many_places}
+use Rattle.refusal.specs.declared.Reason.TheVariants.{TooManyPlaces}
 use Rattle.refusal.specs.Answer.{ok, refused}
 use Rattle.lines.specs.Lines.{Line, lines_from, ends_line}
 use Rattle.lines.specs.declared.End.{End}
@@ -82,7 +82,7 @@ accepted text issue start c e = go (twice_at text start) refl (read_block text s
         (λ k. let f : ok (record { purge = t; places = ps }) ≡ ok c = rw k at e in
         let same : record { purge = t; places = ps } ≡ c = cc in
         subst (Accepted text issue start) same (record { stamp = s; purge_at_lem = z; read = q; once = w; ascending = a; few = leb-true (length ps) capacity k; gives = g }))
-        λ k. let f : refused too_many_places start ≡ ok c = rw k at e in apart cc
+        λ k. let f : refused TooManyPlaces start ≡ ok c = rw k at e in apart cc
 
     go : (o : Option ℕ) → twice_at text start ≡ o → (r : Read) → read_block text start ≡ r → content_in issue start o r ≡ ok c → Accepted text issue start c
     go o w (wrong_at place) q e = apart cc

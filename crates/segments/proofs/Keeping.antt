@@ -17,23 +17,22 @@ use Rattle.laws.proofs.Tests.{either_way, apart}
 use Rattle.laws.proofs.Lists.{drop_take, all_get}
 use Rattle.laws.proofs.Lookups.{some_same}
 use Rattle.laws.proofs.Stores.{Copied, copied_done}
+use Rattle.std.specs.Prelude.{Result, Ok}
+use Rattle.refusal.specs.Answer.{answer_by}
 use Rattle.refusal.specs.declared.Refusal.{Refusal}
 use Rattle.codes.specs.Places.{capacity}
 use Rattle.codes.specs.Block.{content_at}
 use Rattle.reading.specs.Placed.{placed_at}
 use Rattle.sets.specs.Held.{Good}
-use Rattle.reading.specs.Held.{content_for}
+use Rattle.reading.specs.Held.{placed_of}
 use Rattle.reading.proofs.Placing.{content_told}
 use Rattle.sets.specs.declared.Places.{Places}
 use Rattle.reading.specs.declared.Content.{Content}
-use Rattle.reading.specs.declared.Purge.TheVariants as purge
 use Rattle.segments.specs.Seen.{Sized}
 use Rattle.segments.specs.KeptAt.{keep_at, keep_each}
-use Rattle.segments.specs.KeptBy.{places_said, kept_by, places_from, handed_on}
+use Rattle.segments.specs.KeptBy.{places_said, places_from, handed_on}
 use Rattle.segments.specs.declared.Segment.{Segment}
 use Rattle.segments.specs.declared.Segments.{Segments}
-use Rattle.segments.specs.declared.Next.{Next}
-use Rattle.segments.specs.declared.Next.TheVariants as next
 
 -- ---- one segment
 pub keep_none : (at : ℕ) (ps ks : List ℕ) → length ks < at + capacity → ks ≡ keep_at at ps ks
@@ -50,14 +49,11 @@ keep_few t g = rw (length-take-le (t.count - 0) t.held (omega (arith, g.few, g.l
 
 -- ---- one step
 module _ (s : List ℕ) (issue at : ℕ) (ks : List ℕ) where
-  pub kept_refused : (r : Next) (x : Refusal) → r ≡ next.Refused x → ks ≡ kept_by s issue at r ks
-  kept_refused r x e = sym (ap (λ (k : Next). kept_by s issue at k ks) e)
-
-  pub kept_one : (a : ℕ) (c : Content) → c ≡ content_for (placed_at s issue a) → (t place : ℕ) → c.purge ≡ purge.At t place → (d : List ℕ)
+  pub kept_content : (a : ℕ) (r : Result Content Refusal) → answer_by placed_of r ≡ placed_at s issue a → (c : Content) → r ≡ Ok c → (d : List ℕ)
       → d ≡ keep_at at (take (c.places.count - 0) c.places.held) ks → d ≡ keep_at at (places_said (content_at s issue a)) ks
-  kept_one a c e t place p d f =
+  kept_content a r e c q d f =
       let n : c.places.count - 0 ≡ c.places.count = omega arith in
-      f ∙ ap (λ (m : ℕ). keep_at at (take m c.places.held) ks) n ∙ rw (← content_told s issue a c e, p)
+      f ∙ ap (λ (m : ℕ). keep_at at (take m c.places.held) ks) n ∙ rw (← content_told s issue a r e, q)
 
 -- ---- step after step
 keep_length : (at : ℕ) (ps ks : List ℕ) → length (keep_at at ps ks) ≡ length ks

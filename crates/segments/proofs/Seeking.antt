@@ -4,27 +4,18 @@ use Prim.Native.Nat.{ℕ, ◌-◌, ◌≤◌, ◌<◌}
 use native.Mathlib.Omega.{arith}
 use mathlib.Core.Path.{◌≡◌, refl, sym, ap, ◌∙◌}
 use mathlib.Core.List.{List}
-use mathlib.Core.Bool.{Bool, true, false, cond, ◌||◌}
+use mathlib.Core.Bool.{Bool, true, false, cond}
 use lib.ListN.{length}
 use Rattle.laws.proofs.Tests.{by_order}
 use Rattle.lines.specs.Spans.{span_at, part}
 use Rattle.lines.specs.declared.Span.{Span}
 use Rattle.lines.proofs.Ends.{next_of, next_within, next_more, next_last, part_body, line_at, lines_step, lines_last, span_here, span_none, found_none, found_here, found_start, found_again, found_end, found_next, span_inside, span_next}
-use Rattle.segments.specs.Search.{from_first, after_first, closes}
-use Rattle.segments.specs.Searching.{test_of, lines_on, found_lines, LineFrom, Inside, next_in}
-use Rattle.heading.specs.Storm.{is_office}
-use Rattle.segments.specs.declared.Sought.{Sought}
-use Rattle.segments.specs.declared.Sought.TheVariants.{OfficeOrClose}
+use Rattle.segments.specs.Search.{from_first, after_first}
+use Rattle.segments.specs.Searching.{lines_on, found_lines, Inside, next_in}
 
 -- the place after a line
 pub next_is : (s : List ℕ) (at : ℕ) → next_in at (span_at s at) ≡ next_of s at
 next_is s at = by_order at (length s) (λ h. rw (span_here s at h)) (λ h. rw (span_none s at h, next_last s at h))
-
-pub after_is : (s : List ℕ) (at : ℕ) (f : Option Span) → f ≡ span_at s at → (l : Span) → f ≡ Some l → l.next ≡ next_in at (span_at s at)
-after_is s at f e l q = found_next s at f e l q ∙ sym (next_is s at)
-
-pub after_gone : (s : List ℕ) (at : ℕ) (f : Option Span) → f ≡ span_at s at → f ≡ None → at ≡ next_in at (span_at s at)
-after_gone s at f e q = sym (next_is s at ∙ next_last s at (found_none s at f e q))
 
 -- the bytes of a line that was found
 pub body_of : (s : List ℕ) (at : ℕ) (f : Option Span) → f ≡ span_at s at → (l : Span) → f ≡ Some l → (line : List ℕ) → line ≡ part s at l.end → line ≡ (line_at s at).body
@@ -39,9 +30,9 @@ pub seeks_start : (p : List ℕ → Bool) (s : List ℕ) (from : ℕ) → Seeks 
 seeks_start p s from = record { low = omega arith; same = refl }
 
 module _ (p : List ℕ → Bool) (s : List ℕ) (from at : ℕ) (v : Seeks p s from at) where
-  pub seeks_none : (f : Option Span) → f ≡ span_at s at → f ≡ None → found_lines s None ≡ from_first p (lines_on s from)
+  pub seeks_none : (f : Option Span) → f ≡ span_at s at → f ≡ None → (r : Option Span) → r ≡ None → found_lines s r ≡ from_first p (lines_on s from)
   unfolding from_first
-  seeks_none f e q = sym (v.same ∙ ap (from_first p) (lines_last s at (found_none s at f e q)))
+  seeks_none f e q r z = rw z (sym (v.same ∙ ap (from_first p) (lines_last s at (found_none s at f e q))))
 
   module _ (f : Option Span) (e : f ≡ span_at s at) (l : Span) (z : f ≡ Some l) (line : List ℕ) (el : line ≡ part s at l.end) (t : Bool) (et : t ≡ p line) where
     h : at < length s
@@ -65,19 +56,8 @@ module _ (p : List ℕ → Bool) (s : List ℕ) (from at : ℕ) (v : Seeks p s f
     pub seeks_less : length s - l.next < length s - at
     seeks_less = omega (arith, found_next s at f e l z, next_more s at h, next_within s at (omega (arith, h)))
 
--- ---- the test that is sought
-pub sought_is : (k j : Sought) (line : List ℕ) (r : Bool) → k ≡ j → r ≡ test_of j line → r ≡ test_of k line
-sought_is k j line r e q = rw e q
-
-pub sought_both : (k : Sought) (line : List ℕ) (a b : Bool) → k ≡ OfficeOrClose → a ≡ closes line → b ≡ is_office line → (a || b) ≡ test_of k line
-sought_both k line a b e p q = rw (e, p, q)
-
 -- ---- the lines after the first that is sought
-module _ (p : List ℕ → Bool) (s : List ℕ) (from : ℕ) (f : Option Span) (ef : found_lines s f ≡ from_first p (lines_on s from)) where
-  pub after_none : f ≡ None → lines_on s (length s) ≡ after_first p (lines_on s from)
-  after_none q = lines_last s (length s) (omega arith) ∙ rw (← ef, q)
-
-  pub after_line_lem : Inside s from f → (l : Span) → f ≡ Some l → lines_on s l.next ≡ after_first p (lines_on s from)
-  after_line_lem i l q =
-      let v : LineFrom s from l = rw q at i in
-      rw (span_next s l v.is, ← ef, q, lines_step s l.start (span_inside s l v.is))
+pub after_found : (p : List ℕ → Bool) (s : List ℕ) (from : ℕ) (f : Option Span) → found_lines s f ≡ from_first p (lines_on s from) → Inside s from f
+    → lines_on s (next_in (length s) f) ≡ after_first p (lines_on s from)
+after_found p s from None ef i = lines_last s (length s) (omega arith) ∙ rw (← ef)
+after_found p s from (Some l) ef i = rw (span_next s l i.is, ← ef, lines_step s l.start (span_inside s l i.is))

@@ -5,14 +5,14 @@ use native.Mathlib.Numerals.{add-one}
 use native.Mathlib.Omega.{arith}
 use mathlib.Core.Path.{◌≡◌, refl, sym, ap, ap₂, ◌∙◌}
 use mathlib.Core.List.{List, [], ◌∷◌, ◌++◌, append_assoc, append-nil}
-use Rattle.std.specs.Prelude.{Option, None, Some}
+use Rattle.std.specs.Prelude.{Option, None, Some, Result, Ok, Err}
 use lib.ListN.{length, take, drop, set, length-set, take-append-drop}
 use lib.Seq.{length-take-le, take-suc-set, drop-drop}
 use Rattle.laws.proofs.Tests.{apart}
 use Rattle.laws.proofs.Lists.{all_set}
 use Rattle.laws.specs.Lists.{All, all_nil, all_cons}
-use Rattle.refusal.specs.Numbers.{no_end, ninth_segment}
-use Rattle.refusal.specs.Answer.{Answer, ok, no, refusal_for, and_then}
+use Rattle.refusal.specs.declared.Reason.TheVariants.{NoEnd, NinthSegment}
+use Rattle.refusal.specs.Answer.{Answer, ok, no, refusal_for, and_then, answer_by}
 use Rattle.refusal.specs.declared.Refusal.{Refusal}
 use Rattle.lines.specs.Lines.{Line, is_end, opens}
 use Rattle.lines.specs.Spans.{span_at}
@@ -20,29 +20,25 @@ use Rattle.lines.specs.declared.Span.{Span}
 use Rattle.lines.proofs.Ends.{next_of, ending_of, line_at, lines_step, span_inside, span_next, span_ended}
 use Rattle.reading.specs.Placed.{Placed, placed_at}
 use Rattle.sets.specs.Held.{Good, places_in}
-use Rattle.reading.specs.Held.{content_for}
+use Rattle.reading.specs.Held.{placed_of}
 use Rattle.reading.specs.declared.Content.{Content}
-use Rattle.reading.specs.declared.Purge.TheVariants as purge
-use Rattle.reading.proofs.Placing.{placed_back, refused_back, placed_parts}
+use Rattle.reading.proofs.Placing.{placed_parts}
 use Rattle.segments.specs.Search.{from_first}
 use Rattle.segments.specs.Searching.{lines_on, found_lines, LineFrom, Inside, next_in}
 use Rattle.segments.specs.Segments as segments
 use Rattle.segments.specs.Segments.{segments_from, opened, runs_to, past_purge}
 use Rattle.segments.specs.Seen.{unread, segments_for, segments_held, Few, Sized}
-use Rattle.segments.specs.Listing.{seen_of, seen_from, seen_before, then_seen, Begun, Stepped, paper_listed}
+use Rattle.segments.specs.Listing.{seen_of, seen_from, seen_before, begun_seen, then_seen, Begun, Stepped}
 use Rattle.segments.specs.KeptAt.{keep_each}
-use Rattle.segments.specs.KeptBy.{places_at, kept_by, kept_from}
+use Rattle.segments.specs.KeptBy.{places_at, kept_by, kept_from, KeptSome}
 use Rattle.segments.specs.declared.Segment.{Segment}
 use Rattle.segments.specs.declared.Segments.{Segments}
-use Rattle.segments.specs.declared.Next.{Next}
-use Rattle.segments.specs.declared.Next.TheVariants as next
-use Rattle.segments.specs.declared.Ending.TheVariants as ending
 use Rattle.segments.proofs.Seeking.{next_is}
 use Rattle.segments.proofs.Purges.{past_is, block_behind, block_skips}
 use Rattle.segments.proofs.Keeping.{kept_length_lem, kept_more}
 
 -- ---- the segment that starts at a
-module _ (s : List ℕ) (issue : ℕ) (o : Span) (eo : span_at s o.start ≡ Some o) (c : Content) (ec : c ≡ content_for (placed_at s issue o.start)) where
+module _ (s : List ℕ) (issue : ℕ) (o : Span) (eo : span_at s o.start ≡ Some o) (rc : Result Content Refusal) (ec : answer_by placed_of rc ≡ placed_at s issue o.start) where
   abbrev a : ℕ
   a = o.start
 
@@ -57,16 +53,19 @@ module _ (s : List ℕ) (issue : ℕ) (o : Span) (eo : span_at s o.start ≡ Som
       ap (λ (ls : List Line). seen_of (opened s issue (segments_from n s issue) ls)) (lines_step s a inside)
       ∙ ap (λ (ls : List Line). seen_of (and_then (placed_at s issue a) (λ p. runs_to (line_at s a) (past_purge p.at (line_at s a) (lines_on s (next_of s a))) p.content (segments_from n s issue) (from_first is_end ls)))) (sym (lines_step s a inside))
 
-  pub begun_refused : (r : Refusal) → c.purge ≡ purge.Refused r → Begun s issue a (next.Refused r)
+  pub begun_refused : (r : Refusal) → rc ≡ Err r → Begun s issue a (Err r)
   unfolding and_then
-  begun_refused r y = record { same = λ n. opened_is n ∙ rw (refused_back (placed_at s issue a) c ec r y); few = λ g h. apart cc }
+  begun_refused r y = record { same = λ n. opened_is n ∙ rw (← ec, y); few = λ g h. apart cc }
 
-  module _ (t at : ℕ) (y : c.purge ≡ purge.At t at) (d : ℕ) (ed : d ≡ next_in at (span_at s at)) (f : Option Span) (e : found_lines s f ≡ from_first is_end (lines_on s d)) where
+  module _ (c : Content) (y : rc ≡ Ok c) (d : ℕ) (ed : d ≡ next_in c.place (span_at s c.place)) (f : Option Span) (e : found_lines s f ≡ from_first is_end (lines_on s d)) where
+    abbrev at : ℕ
+    at = c.place
+
     abbrev here : Placed
-    here = record { content = record { purge = t; places = places_in c.places }; at = at }
+    here = placed_of c
 
     placed_is : placed_at s issue a ≡ ok here
-    placed_is = placed_back (placed_at s issue a) c ec t at y
+    placed_is = sym ec ∙ ap (answer_by placed_of) y
 
     -- the first `$$` line behind the block is the segment's
     end_is : found_lines s f ≡ from_first is_end (lines_on s a)
@@ -79,8 +78,8 @@ module _ (s : List ℕ) (issue : ℕ) (o : Span) (eo : span_at s o.start ≡ Som
     unfolding and_then
     runs_is n = opened_is n ∙ rw (placed_is, end_is)
 
-    pub begun_endless : f ≡ None → (r : Next) → r ≡ next.Refused (refusal_for no_end a) → Begun s issue a r
-    begun_endless z r w = record { same = λ n. runs_is n ∙ rw (z, w); few = λ g h. let v : next.Refused (refusal_for no_end a) ≡ next.One g = sym w ∙ h in apart cc }
+    pub begun_endless : f ≡ None → (w : Refusal) → w ≡ refusal_for NoEnd a → Begun s issue a (Err w)
+    begun_endless z w ew = record { same = λ n. runs_is n ∙ rw (z, ew); few = λ g h. apart cc }
 
     module _ (g : Good c.places) (i : Inside s d f) (b : Span) (z : f ≡ Some b) where
       end_line : LineFrom s d b
@@ -96,7 +95,7 @@ module _ (s : List ℕ) (issue : ℕ) (o : Span) (eo : span_at s o.start ≡ Som
           ed ∙ next_is s at ∙ sym (past_is s a at inside v.low v.high)
 
       one : Segment
-      one = record { start = a; block = d; past = b.next; ended = o.ended; purge = t; count = c.places.count }
+      one = record { start = a; block = d; past = b.next; ended = o.ended; purge = c.purge; count = c.places.count }
 
       seen_one : (x : Answer (List segments.Segment))
           → seen_of (and_then x (λ ss. ok (record { start = a; block = past_purge at (line_at s a) (lines_on s (next_of s a)); past = next_of s b.start; ended = ending_of s a; content = here.content } ∷ ss))) ≡ seen_before (one ∷ []) (seen_of x)
@@ -106,14 +105,14 @@ module _ (s : List ℕ) (issue : ℕ) (o : Span) (eo : span_at s o.start ≡ Som
           rw (n, past_block, past_line, span_ended s o eo)
       seen_one (no number place) = refl
 
-      pub begun_one : Begun s issue a (next.One (record { start = a; block = d; past = b.next; ended = o.ended; purge = t; count = c.places.count }))
+      pub begun_one : Begun s issue a (Ok (record { start = a; block = d; past = b.next; ended = o.ended; purge = c.purge; count = c.places.count }))
       unfolding one
       begun_one =
           record {
             same = λ n.
                 runs_is n ∙ rw (z, lines_step s b.start (span_inside s b end_line.is)) (seen_one (segments_from n s issue (lines_on s (next_of s b.start)))
                 ∙ ap (λ (k : ℕ). seen_before (one ∷ []) (seen_from n s issue k)) (sym past_line));
-            few = λ x h. let w : record { start = a; block = d; past = b.next; ended = o.ended; purge = t; count = c.places.count } ≡ x = cc in rw (← w) g.few;
+            few = λ x h. let w : record { start = a; block = d; past = b.next; ended = o.ended; purge = c.purge; count = c.places.count } ≡ x = cc in rw (← w) g.few;
           }
 
 -- ---- the next segment from a place on
@@ -124,7 +123,7 @@ module _ (s : List ℕ) (issue left from : ℕ) (f : Option Span) (ef : found_li
   none_left zero q = rw (← ef, q)
   none_left (suc n) q = rw (← ef, q)
 
-  pub step_nothing : f ≡ None → Stepped s issue left from next.Nothing
+  pub step_nothing : f ≡ None → Stepped s issue left from (Ok None)
   step_nothing q = record { same = none_left left q; room = λ g e. apart cc; few = λ g e. apart cc }
 
   module _ (i : Inside s from f) (o : Span) (q : f ≡ Some o) where
@@ -134,23 +133,27 @@ module _ (s : List ℕ) (issue left from : ℕ) (f : Option Span) (ef : found_li
     lines_are : from_first opens (lines_on s from) ≡ lines_on s o.start
     lines_are = sym ef ∙ ap (found_lines s) q
 
-    pub step_ninth : left ≡ 0 → (r : Next) → r ≡ next.Refused (refusal_for ninth_segment o.start) → Stepped s issue left from r
+    pub step_ninth : left ≡ 0 → (w : Refusal) → w ≡ refusal_for NinthSegment o.start → Stepped s issue left from (Err w)
     unfolding segments_from
-    step_ninth z r e =
-        let no_one : (g : Segment) → r ≡ next.One g → ⊥ = λ g h. let w : next.Refused (refusal_for ninth_segment o.start) ≡ next.One g = sym e ∙ h in apart cc in
-        record { same = rw (z, e, lines_are, lines_step s o.start (span_inside s o step_line)); room = λ g h. absurd (no_one g h); few = λ g h. absurd (no_one g h) }
+    step_ninth z w e = record { same = rw (z, e, lines_are, lines_step s o.start (span_inside s o step_line)); room = λ g h. apart cc; few = λ g h. apart cc }
 
-    pub step_begun : (left ≡ 0 → ⊥) → (r : Next) → Begun s issue o.start r → Stepped s issue left from r
+    step_same : (left ≡ 0 → ⊥) → (r : Result Segment Refusal) → Begun s issue o.start r → seen_from left s issue from ≡ begun_seen s issue (left - 1) r
     unfolding segments_from
-    step_begun p r v =
+    step_same p r v =
         let one_more : left ≡ suc (left - 1) = omega arith in
+        ap (λ (n : ℕ). seen_from n s issue from) one_more
+        ∙ ap (λ (ls : List Line). seen_of (opened s issue (segments_from (left - 1) s issue) ls)) lines_are
+        ∙ v.same (left - 1)
+
+    pub step_refused : (left ≡ 0 → ⊥) → (r : Result Segment Refusal) → Begun s issue o.start r → (w : Refusal) → r ≡ Err w → Stepped s issue left from (Err w)
+    step_refused p r v w q = record { same = step_same p r v ∙ rw q; room = λ g h. apart cc; few = λ g h. apart cc }
+
+    pub step_begun : (left ≡ 0 → ⊥) → (r : Result Segment Refusal) → Begun s issue o.start r → (b : Segment) → r ≡ Ok b → Stepped s issue left from (Ok (Some b))
+    step_begun p r v b q =
         record {
-          same =
-              ap (λ (n : ℕ). seen_from n s issue from) one_more
-              ∙ ap (λ (ls : List Line). seen_of (opened s issue (segments_from (left - 1) s issue) ls)) lines_are
-              ∙ v.same (left - 1);
+          same = step_same p r v ∙ rw q;
           room = λ g h. omega arith;
-          few = v.few;
+          few = λ g h. let e : b ≡ g = cc in v.few g (q ∙ ap Ok e);
         }
 
 -- ---- step after step
@@ -226,24 +229,24 @@ module _ (s : List ℕ) (issue from : ℕ) (ks₀ ks : List ℕ) (held : List Se
   listing_sized = record { long = v.long; few = v.few; each = v.each }
 
   -- where the list ends, what was kept before is kept
-  module _ (r : Next) (d : List ℕ) (k : d ≡ kept_by s issue (120 * count) r ks) where
-    pub kept_end : r ≡ next.Nothing → d ≡ kept_from s issue 0 (take count held) ks₀
-    kept_end q = k ∙ ap (λ (x : Next). kept_by s issue (120 * count) x ks) q ∙ v.kept
+  module _ (r : Result (Option Segment) Refusal) (d : List ℕ) (k : d ≡ kept_by s issue (120 * count) r ks) where
+    pub kept_end : r ≡ Ok None → d ≡ kept_from s issue 0 (take count held) ks₀
+    kept_end q = k ∙ ap (λ (x : Result (Option Segment) Refusal). kept_by s issue (120 * count) x ks) q ∙ v.kept
 
-    pub kept_no : (f : Refusal) → r ≡ next.Refused f → d ≡ kept_from s issue 0 (take count held) ks₀
-    kept_no f q = k ∙ ap (λ (x : Next). kept_by s issue (120 * count) x ks) q ∙ v.kept
+    pub kept_some : (f : Refusal) → r ≡ Err f → KeptSome s issue ks₀ d
+    kept_some f q = record { segments = take count held; kept = k ∙ ap (λ (x : Result (Option Segment) Refusal). kept_by s issue (120 * count) x ks) q ∙ v.kept }
 
-  module _ (r : Next) (e : Stepped s issue (8 - count) at r) where
+  module _ (r : Result (Option Segment) Refusal) (e : Stepped s issue (8 - count) at r) where
     listed : seen_from 8 s issue from ≡ seen_before (take count held) (then_seen s issue (8 - count - 1) r)
     listed = v.same ∙ ap (seen_before (take count held)) e.same
 
-    pub listing_end : r ≡ next.Nothing → paper_listed (record { ending = ending.Whole; segments = record { held = held; count = count } }) ≡ seen_from 8 s issue from
+    pub listing_end : r ≡ Ok None → answer_by segments_held (Ok (record { held = held; count = count })) ≡ seen_from 8 s issue from
     listing_end q = sym (listed ∙ rw (q, append-nil (take count held)))
 
-    pub listing_refused : (f : Refusal) → r ≡ next.Refused f → paper_listed (record { ending = ending.Refused f; segments = record { held = held; count = count } }) ≡ seen_from 8 s issue from
+    pub listing_refused : (f : Refusal) → r ≡ Err f → answer_by segments_held (Err f) ≡ seen_from 8 s issue from
     listing_refused f q = sym (listed ∙ rw q)
 
-    module _ (g : Segment) (q : r ≡ next.One g) where
+    module _ (g : Segment) (q : r ≡ Ok (Some g)) where
       pub listing_room : count < 8
       listing_room = omega (arith, e.room g q)
 

@@ -1,12 +1,11 @@
 -- Serves the code: what its functions say to each other of the places that they keep.
-use Rattle.std.specs.Prelude.{ℕ, ◌*◌, List, [], take, drop}
+use Rattle.std.specs.Prelude.{ℕ, ◌≡◌, ◌*◌, Option, None, Some, Result, Ok, Err, List, [], take, drop}
 use Rattle.refusal.specs.Answer.{Answer, ok, no}
+use Rattle.refusal.specs.declared.Refusal.{Refusal}
 use Rattle.codes.specs.Places.{capacity}
 use Rattle.codes.specs.Block.{Content, content_at}
 use Rattle.segments.specs.KeptAt.{keep_at, keep_each}
 use Rattle.segments.specs.declared.Segment.{Segment}
-use Rattle.segments.specs.declared.Next.{Next}
-use Rattle.segments.specs.declared.Next.TheVariants as next
 
 abbrev pub places_said : Answer Content → List ℕ
 places_said (ok c) = c.places
@@ -16,15 +15,25 @@ places_said (no number place) = []
 abbrev pub places_at : List ℕ → ℕ → ℕ → Segment → List ℕ
 places_at text issue i g = places_said (content_at text issue g.start)
 
--- one step of the reader keeps the places of the segment that it reads
-abbrev pub kept_by : List ℕ → ℕ → ℕ → Next → List ℕ → List ℕ
-kept_by text issue at next.Nothing ks = ks
-kept_by text issue at (next.Refused r) ks = ks
-kept_by text issue at (next.One g) ks = keep_at at (places_at text issue 0 g) ks
+-- the places of the segment that is read are kept
+abbrev pub kept_one : List ℕ → ℕ → ℕ → Result Segment Refusal → List ℕ → List ℕ
+kept_one text issue at (Ok g) ks = keep_at at (places_at text issue 0 g) ks
+kept_one text issue at (Err r) ks = ks
+
+-- and in one step of the reader
+abbrev pub kept_by : List ℕ → ℕ → ℕ → Result (Option Segment) Refusal → List ℕ → List ℕ
+kept_by text issue at (Ok None) ks = ks
+kept_by text issue at (Ok (Some g)) ks = keep_at at (places_at text issue 0 g) ks
+kept_by text issue at (Err r) ks = ks
 
 -- all of them, the first of which is segment i
 abbrev pub kept_from : List ℕ → ℕ → ℕ → List Segment → List ℕ → List ℕ
 kept_from text issue i gs ks = keep_each (places_at text issue) i gs ks
+
+-- those of some segments
+pub record KeptSome (text : List ℕ) (issue : ℕ) (before after : List ℕ) : Type 0 where
+  pub segments : List Segment
+  pub kept : after ≡ kept_from text issue 0 segments before
 
 -- the places that were kept for segment i
 abbrev pub places_from : List ℕ → ℕ → Segment → List ℕ

@@ -1,7 +1,6 @@
 -- Serves the code: what its search over lines and the answer of it mean.
-use Rattle.std.specs.Prelude.{ℕ, zero, suc, ◌≤◌, ◌≡◌, List, [], Bool, true, cond, ◌&&◌, ◌||◌, drop, get_or, eqb, ltb}
+use Rattle.std.specs.Prelude.{ℕ, ◌≤◌, ◌≡◌, List, [], Bool, ◌||◌, drop}
 use Rattle.std.specs.Prelude.{Option, None, Some}
-use Rattle.lines.specs.Bytes.{capital, digit}
 use Rattle.lines.specs.Lines as lines
 use Rattle.lines.specs.Lines.{lines_from, blank, is_end}
 use Rattle.lines.specs.Spans.{span_at}
@@ -19,20 +18,6 @@ test_of End = is_end
 test_of Blank = blank
 test_of Close = closes
 test_of OfficeOrClose = office_or_close
-
--- ---- a line that opens a block, byte by byte: the byte at k may stand there
-unfoldable pub may_open : List ℕ → ℕ → Bool
-may_open s k =
-    cond (ltb k 2) (capital (get_or s k 0))
-    (cond (eqb k 2) (eqb (get_or s k 0) 67 || eqb (get_or s k 0) 90)
-    (cond (eqb k 3) (digit (get_or s k 0) || eqb (get_or s k 0) 65)
-    (cond (ltb k 6) ((digit (get_or s 3 0) && digit (get_or s k 0)) || (eqb (get_or s 3 0) 65 && eqb (get_or s k 0) 76))
-    (eqb (get_or s k 0) 45 || eqb (get_or s k 0) 62))))
-
--- and so do all before it
-unfoldable pub may_open_to : List ℕ → ℕ → Bool
-may_open_to s zero = true
-may_open_to s (suc k) = may_open_to s k && may_open s k
 
 -- the lines of the text from a place on
 abbrev pub lines_on : List ℕ → ℕ → List lines.Line

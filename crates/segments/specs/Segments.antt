@@ -1,6 +1,6 @@
 -- Document 01, "Segments and place code blocks": the segments of a bulletin.
 use Rattle.std.specs.Prelude.{ℕ, zero, suc, List, [], ◌∷◌, cond, ltb}
-use Rattle.refusal.specs.Numbers.{no_end, ninth_segment}
+use Rattle.refusal.specs.declared.Reason.TheVariants.{NoEnd, NinthSegment}
 use Rattle.refusal.specs.Answer.{Answer, ok, refused, and_then}
 use Rattle.lines.specs.Lines.{Line, is_end, opens}
 use Rattle.lines.specs.declared.End.{End}
@@ -23,7 +23,7 @@ past_purge at l (m ∷ ls) = cond (ltb at l.next) l.next (past_purge at m ls)
 
 -- "A segment runs up to and with the line that is exactly `$$`." l is its first line; 8 at its start where there is none; the next segments stand in the lines after it.
 abbrev pub runs_to : Line → (block : ℕ) → Content → (List Line → Answer (List Segment)) → List Line → Answer (List Segment)
-runs_to l block c next [] = refused no_end l.start
+runs_to l block c next [] = refused NoEnd l.start
 runs_to l block c next (e ∷ ls) = and_then (next ls) (λ ss. ok (record { start = l.start; block = block; past = e.next; ended = l.ended; content = c } ∷ ss))
 
 -- in each segment 6, 25, 5 and 11, then 8
@@ -36,7 +36,7 @@ opened text issue next (l ∷ ls) =
 -- | 9 | a ninth segment | its start |
 abbrev pub ninth : List Line → Answer (List Segment)
 ninth [] = ok []
-ninth (l ∷ ls) = refused ninth_segment l.start
+ninth (l ∷ ls) = refused NinthSegment l.start
 
 -- "Each next segment starts at the next such line after the previous `$$`. Lines between are passed over." At most n more.
 unfoldable pub segments_from : ℕ → List ℕ → ℕ → List Line → Answer (List Segment)

@@ -4,7 +4,7 @@ use native.Mathlib.Omega.{arith}
 use mathlib.Core.Path.{◌≡◌, refl, sym, ap, ap₂, ◌∙◌}
 use mathlib.Core.Bool.{Bool, true, false, ◌&&◌}
 use mathlib.Core.List.{List, ◌++◌}
-use Rattle.std.specs.Prelude.{Option, None, Some}
+use Rattle.std.specs.Prelude.{Option, None, Some, Result, Ok, Err, IfOk}
 use lib.ListN.{length, take, drop, get_or, length-map, take-append-drop}
 use lib.Seq.{length-take-le}
 use lib.Dec.{eqb, leb}
@@ -12,14 +12,12 @@ use mir.Syntax.{w64}
 use mir.Val.{Fits}
 use borrow.Author.Tests.{le-leb, lt-leb, eq-eqb, ne_eqb, eqb-true, leb-true}
 use Rattle.laws.proofs.Tests.{and_right}
-use Rattle.refusal.specs.Numbers.{wrong_length, wrong_time, not_sound, output_short, not_belonging}
-use Rattle.refusal.specs.Answer.{Answer, ok, no, refused, refusal_for, must, and_then}
+use Rattle.refusal.specs.declared.Reason.TheVariants.{WrongLength, WrongTime, NotSound, OutputShort, NotBelonging}
+use Rattle.refusal.specs.Answer.{Answer, ok, refused, refusal_for, must, and_then, answer_of}
 use Rattle.refusal.specs.declared.Refusal.{Refusal}
 use Rattle.calendar.specs.Calendar.{date_of}
 use Rattle.calendar.specs.declared.Date.{Date}
-use Rattle.writing.specs.Write.{fitting, length_of, output_of, paper_written}
-use Rattle.writing.specs.declared.Written.{Written}
-use Rattle.writing.specs.declared.Written.TheVariants as written
+use Rattle.writing.specs.Write.{fitting, length_of, output_of}
 use Rattle.bulletin.specs.Bulletin as rule
 use Rattle.bulletin.specs.Bulletin.{text_most, is_length, read_bulletin}
 use Rattle.lines.specs.declared.End.{End}
@@ -28,8 +26,6 @@ use Rattle.segments.specs.Seen.{seen, segments_held, Sized}
 use Rattle.bulletin.specs.Report.{reported, Reads}
 use Rattle.segments.specs.declared.Segment.{Segment}
 use Rattle.segments.specs.declared.Segments.{Segments}
-use Rattle.bulletin.specs.declared.Head.{Head}
-use Rattle.bulletin.specs.declared.Reading.TheVariants as reading
 use Rattle.bulletin.specs.declared.Bulletin.{Bulletin}
 use Rattle.bulletin.proofs.Saying.{Told, told_by, refused_by}
 use Rattle.blocks.specs.Block.{book_length, number_at}
@@ -57,21 +53,21 @@ issue_on l n is x e d q = record { is = is; on = (sym q) ∙ e }
 
 module _ (text l before : List ℕ) where
   -- what the rule says gives the promise
-  ruled : (after : List ℕ) (r : Written) (a : Answer (List ℕ)) → edited_rule text l (length before) ≡ a → paper_written r ≡ length_of a → after ≡ output_of a before
+  ruled : (after : List ℕ) (r : Result ℕ Refusal) (a : Answer (List ℕ)) → edited_rule text l (length before) ≡ a → answer_of r ≡ length_of a → after ≡ output_of a before
       → WritesEdited text l before after r
   ruled after r a e f g = record { answer = f ∙ ap length_of (sym e); output = g ∙ ap (λ (x : Answer (List ℕ)). output_of x before) (sym e) }
 
   -- ---- 1
   wrong_length_lem : (is_length text && eqb (length l) book_length) ≡ false
-      → (r : Written) → r ≡ written.Refused (refusal_for wrong_length 0) → WritesEdited text l before before r
+      → (r : Refusal) → r ≡ refusal_for WrongLength 0 → WritesEdited text l before before (Err r)
   unfolding edited_rule and_then
-  wrong_length_lem h r e = ruled before r (refused wrong_length 0) (rw h) (ap paper_written e) refl
+  wrong_length_lem h r e = ruled before (Err r) (refused WrongLength 0) (rw h) (rw e) refl
 
-  pub edited_empty : length text < 1 → (r : Written) → r ≡ written.Refused (refusal_for wrong_length 0) → WritesEdited text l before before r
+  pub edited_empty : length text < 1 → (r : Refusal) → r ≡ refusal_for WrongLength 0 → WritesEdited text l before before (Err r)
   unfolding is_length
   edited_empty h = wrong_length_lem (rw (lt-leb 1 (length text) h))
 
-  pub edited_long : text_most < length text → (r : Written) → r ≡ written.Refused (refusal_for wrong_length 0) → WritesEdited text l before before r
+  pub edited_long : text_most < length text → (r : Refusal) → r ≡ refusal_for WrongLength 0 → WritesEdited text l before before (Err r)
   unfolding is_length
   edited_long h = wrong_length_lem (rw (le-leb 1 (length text) (omega arith), lt-leb (length text) text_most h))
 
@@ -80,7 +76,7 @@ module _ (text l before : List ℕ) where
   is_length_lem h k = rw (le-leb 1 (length text) h, le-leb (length text) text_most k)
 
   pub edited_book : 1 ≤ length text → length text ≤ text_most → (length l ≡ book_length → ⊥)
-      → (r : Written) → r ≡ written.Refused (refusal_for wrong_length 0) → WritesEdited text l before before r
+      → (r : Refusal) → r ≡ refusal_for WrongLength 0 → WritesEdited text l before before (Err r)
   edited_book h k n = wrong_length_lem (rw (is_length_lem h k, ne_eqb (length l) book_length n))
 
   module _ (t : is_length text ≡ true) where
@@ -89,19 +85,19 @@ module _ (text l before : List ℕ) where
     text_most_lem = leb-true (length text) text_most (and_right (leb 1 (length text)) (leb (length text) text_most) t)
 
     -- ---- 12
-    rule_broken : length l ≡ book_length → is_sound l ≡ false → edited_rule text l (length before) ≡ refused not_sound 0
+    rule_broken : length l ≡ book_length → is_sound l ≡ false → edited_rule text l (length before) ≡ refused NotSound 0
     unfolding edited_rule and_then
     rule_broken h s = rw (t, eq-eqb (length l) book_length h, s)
 
     pub edited_broken : length l ≡ book_length → (b : Bool) → b ≡ is_sound l → b ≡ false
-        → (r : Written) → r ≡ written.Refused (refusal_for not_sound 0) → WritesEdited text l before before r
-    edited_broken h b f g r e = ruled before r (refused not_sound 0) (rule_broken h (sym f ∙ g)) (ap paper_written e) refl
+        → (r : Refusal) → r ≡ refusal_for NotSound 0 → WritesEdited text l before before (Err r)
+    edited_broken h b f g r e = ruled before (Err r) (refused NotSound 0) (rule_broken h (sym f ∙ g)) (rw e) refl
 
     module _ (sound : SoundBook l) where
       -- ---- the text read under the book's year and month
       rule_read : (a : Answer rule.Bulletin) → read_under text (date_of (book_of l).issue) ≡ a
           → edited_rule text l (length before) ≡ and_then a
-          (λ r. and_then (must (belongs (book_of l) r) not_belonging 0)
+          (λ r. and_then (must (belongs (book_of l) r) NotBelonging 0)
           (λ _. and_then (written_forms (ends_in r.segments) (book_of l).segments) (λ blocks. fitting (length before) (edited text r.segments blocks))))
       unfolding edited_rule and_then
       rule_read a e = rw (t, eq-eqb (length l) book_length sound.long, sound.sound, e)
@@ -115,25 +111,28 @@ module _ (text l before : List ℕ) where
         under o e = ap (λ (k : ℕ). read_under text (date_of k)) (issue_is n is) ∙ ap (read_under text) (sym e)
 
         module _ (x : Option Date) (e : x ≡ date_of n) where
-          pub edited_undated : x ≡ None → (r : Written) → r ≡ written.Refused (refusal_for wrong_time 0) → WritesEdited text l before before r
+          pub edited_undated : x ≡ None → (r : Refusal) → r ≡ refusal_for WrongTime 0 → WritesEdited text l before before (Err r)
           unfolding and_then
           edited_undated q r f =
-              ruled before r (refused wrong_time 0) (rule_read (refused wrong_time 0) (under None ((sym q) ∙ e))) (ap paper_written f) refl
+              ruled before (Err r) (refused WrongTime 0) (rule_read (refused WrongTime 0) (under None ((sym q) ∙ e))) (rw f) refl
 
-      module _ (n : ℕ) (d : Date) (o : IssueOn l n d) (b : Bulletin) (reads : Reads text d.year d.month b) where
+      module _ (n : ℕ) (d : Date) (o : IssueOn l n d) (rb : Result Bulletin Refusal) (reads : Reads text d.year d.month rb) where
         under_date : read_under text (date_of (book_of l).issue) ≡ read_bulletin text d.year d.month
         under_date = under n o.is (Some d) o.on
 
-        pub edited_unread : (r : Refusal) → b.reading ≡ reading.Refused r → WritesEdited text l before before (written.Refused r)
+        pub edited_unread : (r : Refusal) → rb ≡ Err r → WritesEdited text l before before (Err r)
         unfolding and_then
         edited_unread r q =
-            let f : no r.number r.place ≡ reported (read_bulletin text d.year d.month) = rw q at reads.says in
+            let f : refused r.reason r.place ≡ reported (read_bulletin text d.year d.month) = rw q at reads.says in
             let g = refused_by text d.year d.month r (read_bulletin text d.year d.month) refl f in
-            ruled before (written.Refused r) (no r.number r.place) (rule_read (no r.number r.place) (under_date ∙ g)) refl refl
+            ruled before (Err r) (refused r.reason r.place) (rule_read (refused r.reason r.place) (under_date ∙ g)) refl refl
 
-        module _ (head : Head) (q : b.reading ≡ reading.Accepted head) (z : Sized b.segments) (m : ℕ) (count : m ≡ get_or l 4 0) where
-          told : Told text d.year d.month head (segments_held b.segments)
-          told = told_by text d.year d.month head (segments_held b.segments) (read_bulletin text d.year d.month) refl (rw q at reads.says)
+        module _ (b : Bulletin) (q : rb ≡ Ok b) (is-sized : IfOk rb (λ b. Sized b.segments)) (m : ℕ) (count : m ≡ get_or l 4 0) where
+          z : Sized b.segments
+          z = rw q at is-sized
+
+          told : Told text d.year d.month b.head (segments_held b.segments)
+          told = told_by text d.year d.month b.head (segments_held b.segments) (read_bulletin text d.year d.month) refl (rw q at reads.says)
 
           many : length told.said.segments ≡ b.segments.count
           many =
@@ -141,22 +140,22 @@ module _ (text l before : List ℕ) where
               ∙ ap (λ (gs : List Segment). length gs) (sym told.seen_are)
               ∙ length-take-le b.segments.count b.segments.held (omega (arith, z.long, z.few))
 
-          belong_is : belongs (book_of l) told.said ≡ (eqb head.issue n && eqb b.segments.count m)
+          belong_is : belongs (book_of l) told.said ≡ (eqb b.head.issue n && eqb b.segments.count m)
           unfolding belongs
           belong_is =
               ap₂ (λ (x y : Bool). x && y)
               (ap₂ eqb (sym told.issue) (issue_is n o.is))
               (ap₂ eqb many (segments_length l ∙ sym count))
 
-          pub edited_stranger : (eqb head.issue n && eqb b.segments.count m) ≡ false
-              → (r : Written) → r ≡ written.Refused (refusal_for not_belonging 0) → WritesEdited text l before before r
+          pub edited_stranger : (eqb b.head.issue n && eqb b.segments.count m) ≡ false
+              → (r : Refusal) → r ≡ refusal_for NotBelonging 0 → WritesEdited text l before before (Err r)
           unfolding and_then
           edited_stranger f r g =
-              ruled before r (refused not_belonging 0)
+              ruled before (Err r) (refused NotBelonging 0)
               (rule_read (ok told.said) (under_date ∙ told.read) ∙ rw (belong_is ∙ f))
-              (ap paper_written g) refl
+              (rw g) refl
 
-          pub edited_belongs : (eqb head.issue n && eqb b.segments.count m) ≡ true → Belonging text l b.segments
+          pub edited_belongs : (eqb b.head.issue n && eqb b.segments.count m) ≡ true → Belonging text l b.segments
           edited_belongs f =
               record {
                 date = d;
@@ -244,21 +243,21 @@ module _ (text l before : List ℕ) where
             long = ap (λ (x : List ℕ). length x) (sym filled_is) ∙ filled_long ∙ ap (λ (n : ℕ). n + s.total) (sym is)
 
             pub edited_short : length before < k + s.total
-                → (r : Written) → r ≡ written.Refused (refusal_for output_short 0) → WritesEdited text l before before r
+                → (r : Refusal) → r ≡ refusal_for OutputShort 0 → WritesEdited text l before before (Err r)
             unfolding fitting
             edited_short f r e =
-                ruled before r (refused output_short 0)
+                ruled before (Err r) (refused OutputShort 0)
                 (rule_last ∙ rw (lt-leb (length out) (length before) (omega (arith, long))))
-                (ap paper_written e) refl
+                (rw e) refl
 
             pub edited_room : k + s.total ≤ length before → length (filled_in text gs forms s.each) ≤ length before
             edited_room f = omega (arith, filled_long)
 
             pub edited_whole : k + s.total ≤ length before → (after : List ℕ) → after ≡ output_of (ok (filled_in text gs forms s.each)) before
-                → WritesEdited text l before after (written.Length (k + s.total))
+                → WritesEdited text l before after (Ok (k + s.total))
             unfolding fitting
             edited_whole f after e =
-                ruled after (written.Length (k + s.total)) (ok out)
+                ruled after (Ok (k + s.total)) (ok out)
                 (rule_last ∙ rw (le-leb (length out) (length before) (omega (arith, long))))
                 (ap ok (sym long))
                 (e ∙ ap (λ (x : List ℕ). output_of (ok x) before) filled_is)

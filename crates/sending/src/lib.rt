@@ -7,17 +7,9 @@ ghost use Rattle.forms.specs.Forms.{SoundBook, RoomFor};
 ghost use Rattle.sending.specs.Send.{WritesEdited};
 ghost use Rattle.sending.specs.Under.{IssueOn, Belonging};
 
-use bulletin::Reading;
 use calendar::Date;
-use refusal::Refusal;
+use refusal::{Reason, Refusal};
 use segments::Segments;
-use writing::Written;
-
-fn refused(number: usize) -> Written
-    ensures { result ≡ Written.Refused (record { number = number; place = 0 }) }
-{
-    Written::Refused(Refusal { number, place: 0 })
-}
 
 // The text has been read, and belongs to the book: its edited form, if the output has room for it. The book's blocks go to a lent buffer first.
 fn write_with(
@@ -26,7 +18,7 @@ fn write_with(
     segments: Segments,
     forms: &mut [u8],
     out: &mut [u8],
-) -> Written
+) -> Result<usize, Refusal>
     requires text_value { is_length text.now ≡ true }
     requires sound_book { SoundBook book.now }
     requires belonging { Belonging text.now book.now segments }
@@ -37,14 +29,19 @@ fn write_with(
     let kept = forms::kept_length(text, segments);
     let n = kept + sizes.total;
     if out.len() < n {
-        return refused(refusal::OUTPUT_SHORT);
+        return Err(Reason::OutputShort.into());
     }
     forms::put_edited(text, segments, &*forms, sizes, &mut *out);
-    Written::Length(n)
+    Ok(n)
 }
 
 // The same with a buffer of the call's own. Most bulletins have few segments, and a small buffer is cleared in less time.
-fn write_read(text: &[u8], book: &[u8], segments: Segments, out: &mut [u8]) -> Written
+fn write_read(
+    text: &[u8],
+    book: &[u8],
+    segments: Segments,
+    out: &mut [u8],
+) -> Result<usize, Refusal>
     requires text_value { is_length text.now ≡ true }
     requires sound_book { SoundBook book.now }
     requires belonging { Belonging text.now book.now segments }
@@ -59,57 +56,55 @@ fn write_read(text: &[u8], book: &[u8], segments: Segments, out: &mut [u8]) -> W
 }
 
 // The text is read afresh under the date of the book's issue, and belongs to the book if its issue and its count of segments agree.
-fn write_dated(text: &[u8], book: &[u8], issue: usize, date: Date, out: &mut [u8]) -> Written
+fn write_dated(
+    text: &[u8],
+    book: &[u8],
+    issue: usize,
+    date: Date,
+    out: &mut [u8],
+) -> Result<usize, Refusal>
     requires text_value { is_length text.now ≡ true }
     requires sound_book { SoundBook book.now }
     requires issue_on { IssueOn book.now issue date }
     ensures { WritesEdited text.now book.now out.old out.new result }
 {
-    let bulletin = bulletin::read(text, date.year, date.month);
+    let bulletin = bulletin::read(text, date.year, date.month)?;
     let segments = bulletin.segments;
-    let reading = bulletin.reading;
-    match reading {
-        Reading::Refused(r) => Written::Refused(r),
-        Reading::Accepted(head) => {
-            let n = blocks::size(book[4]);
-            let agrees = (head.issue == issue) & (segments.count == n);
-            if agrees {
-                return write_read(text, book, segments, out);
-            }
-            refused(refusal::NOT_BELONGING)
-        }
+    let n = blocks::size(book[4]);
+    let agrees = (bulletin.head.issue == issue) & (segments.count == n);
+    if !agrees {
+        return Err(Reason::NotBelonging.into());
     }
+    write_read(text, book, segments, out)
 }
 
 // A sound book's issue has a date.
-fn write_sound(text: &[u8], book: &[u8], out: &mut [u8]) -> Written
+fn write_sound(text: &[u8], book: &[u8], out: &mut [u8]) -> Result<usize, Refusal>
     requires text_value { is_length text.now ≡ true }
     requires sound_book { SoundBook book.now }
     ensures { WritesEdited text.now book.now out.old out.new result }
 {
     let issue = blocks::number_at(book, 0) as usize;
-    let Some(date) = calendar::date_of(issue) else {
-        return refused(refusal::WRONG_TIME);
-    };
+    let date = calendar::date_of(issue).ok_or(Reason::WrongTime)?;
     write_dated(text, book, issue, date, out)
 }
 
-// Writes the text with each segment's block replaced by the book's written form to the front of out, every other byte kept.
-pub fn write_edited(text: &[u8], book: &[u8], out: &mut [u8]) -> Written
+// Writes the text with each segment's block replaced by the book's written form to the front of out, every other byte kept, and answers its length.
+pub fn write_edited(text: &[u8], book: &[u8], out: &mut [u8]) -> Result<usize, Refusal>
     ensures { WritesEdited text.now book.now out.old out.new result }
 {
     let n = text.len();
     if n < 1 {
-        return refused(refusal::WRONG_LENGTH);
+        return Err(Reason::WrongLength.into());
     }
     if 16384 < n {
-        return refused(refusal::WRONG_LENGTH);
+        return Err(Reason::WrongLength.into());
     }
     if book.len() != 25088 {
-        return refused(refusal::WRONG_LENGTH);
+        return Err(Reason::WrongLength.into());
     }
-    if layout::is_sound(book) {
-        return write_sound(text, book, out);
+    if !layout::is_sound(book) {
+        return Err(Reason::NotSound.into());
     }
-    refused(refusal::NOT_SOUND)
+    write_sound(text, book, out)
 }

@@ -9,7 +9,7 @@ use lib.ListN.{length}
 use borrow.Author.Tests.{eq-eqb, ne_eqb}
 use Rattle.laws.proofs.Lookups.{some_same}
 use Rattle.laws.proofs.Tests.{apart, or_no}
-use Rattle.refusal.specs.Numbers.{no_such_segment, not_taken, taken_already, two_taken, out_of_range}
+use Rattle.refusal.specs.declared.Reason.TheVariants.{NoSuchSegment, NotTaken, TakenAlready, TwoTaken, OutOfRange}
 use Rattle.refusal.specs.Answer.{Answer, ok, no, must, and_then}
 use Rattle.codes.specs.Block.{Content}
 use Rattle.steps.specs.Book.{Copy, Draft, closed, working, Book, at, put, draft_at}
@@ -59,7 +59,7 @@ copy_none s (k ∷ ks) e = go (eqb s k.segment) e (copy_none s ks)
 
 -- Work on the copies alone: 24, 15, then the work's own. `held` is what the segment holds in the book, if it is there.
 abbrev ranged : ℕ → ℕ → Option Content → Work → List Copy → Bool → Answer (Value × List Copy)
-ranged i s held w ks r = and_then (must r out_of_range 0) λ _. and_then (must_find held no_such_segment) λ c. work_rule i s c w ks
+ranged i s held w ks r = and_then (must r OutOfRange 0) λ _. and_then (must_find held NoSuchSegment) λ c. work_rule i s c w ks
 
 unfoldable pub worked : ℕ → ℕ → Option Content → Work → List Copy → Answer (Value × List Copy)
 worked i s held w ks = ranged i s held w ks (in_range w)
@@ -83,7 +83,7 @@ unfolding book_rule worked and_then
 on_worked b d s w ks stale e = rw e (go (at b.segments s) (in_range w))
   where
     go : (held : Option Content) (r : Bool)
-        → and_then (must r out_of_range 0) (λ _. and_then (must_find held no_such_segment) λ c. and_then (work_rule b.issue s c w ks) (leaving b d stale))
+        → and_then (must r OutOfRange 0) (λ _. and_then (must_find held NoSuchSegment) λ c. and_then (work_rule b.issue s c w ks) (leaving b d stale))
         ≡ acted b d stale (ranged b.issue s held w ks r)
     go held false = refl
     go None true = refl
@@ -98,8 +98,8 @@ edits_has s x ks (no n p) h = h
 
 takes : ℕ → Content → List Copy → Bool → Bool → Answer (Value × List Copy)
 takes s c ks there room =
-    and_then (must (not there) taken_already 0) λ _.
-    and_then (must room two_taken 0) λ _.
+    and_then (must (not there) TakenAlready 0) λ _.
+    and_then (must room TwoTaken 0) λ _.
     ok (done, ks ++ (record { segment = s; held = c } ∷ []))
 
 takes_has : (s x : ℕ) (c : Content) (ks : List Copy) (there room : Bool) → has x ks ≡ true → has x (after ks (takes s c ks there room)) ≡ true
@@ -113,7 +113,7 @@ unfolding work_rule takes and_then
 works_has i s c taking ks x h = takes_has s x c ks (has s ks) (ltb (length ks) 2) h
 works_has i s c (editing e) ks x h = go (copy_of s ks)
   where
-    go : (o : Option Content) → has x (after ks (and_then (must_find o not_taken) λ k. and_then (edit_rule i e k) λ r. ok (r.0, recopy s r.1 ks))) ≡ true
+    go : (o : Option Content) → has x (after ks (and_then (must_find o NotTaken) λ k. and_then (edit_rule i e k) λ r. ok (r.0, recopy s r.1 ks))) ≡ true
     go None = h
     go (Some k) = edits_has s x ks (edit_rule i e k) h
 

@@ -2,7 +2,7 @@
 use mathlib.Core.Path.{◌≡◌, refl}
 use mathlib.Core.Bool.{Bool, true, false, cond}
 use Rattle.std.specs.Prelude.{Option, None, Some}
-use Rattle.refusal.specs.Numbers.{Reason}
+use Rattle.refusal.specs.declared.Reason.{Reason}
 use Rattle.refusal.specs.Answer.{Answer, ok, refused, must, and_then}
 use Rattle.steps.specs.Calls.{Value, must_find, settle}
 

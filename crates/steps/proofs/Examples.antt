@@ -3,7 +3,7 @@ use mathlib.Core.Path.{◌≡◌, refl}
 use mathlib.Core.Bool.{false}
 use mathlib.Core.List.{List, [], ◌∷◌, map}
 use Rattle.refusal.specs.Answer.{ok, refused, and_then}
-use Rattle.refusal.specs.Numbers.{not_taken, stale_draft, no_step}
+use Rattle.refusal.specs.declared.Reason.TheVariants.{NotTaken, StaleDraft, NoStep}
 use Rattle.codes.specs.Block.{Content, insert}
 use Rattle.blocks.specs.Block.{same_list}
 use Rattle.steps.specs.Book.{Book, new_book}
@@ -35,7 +35,7 @@ stale_refused :
     answers_of (run_calls made history).0
     ≡ ok (draft 1) ∷ ok (draft 2) ∷ ok done ∷ ok done
     ∷ ok done ∷ ok (was false) ∷ ok (changed (2 ∷ []))
-    ∷ ok (was false) ∷ refused stale_draft 0 ∷ ok (changed (2 ∷ [])) ∷ refused stale_draft 0 ∷ []
+    ∷ ok (was false) ∷ refused StaleDraft 0 ∷ ok (changed (2 ∷ [])) ∷ refused StaleDraft 0 ∷ []
 unfolding one two made history insert same_list member edit_rule copy_of recopy has work_rule touches stored same_content insert_copy changes latest lowest newest older and_then book_rule step run_calls
 stale_refused = refl
 
@@ -53,9 +53,9 @@ mixed =
 
 mixed_answers :
     answers_of (run_calls made mixed).0
-    ≡ ok (draft 1) ∷ ok (draft 2) ∷ ok done ∷ ok done ∷ refused not_taken 0
+    ≡ ok (draft 1) ∷ ok (draft 2) ∷ ok done ∷ ok done ∷ refused NotTaken 0
     ∷ ok (was false) ∷ ok (was false) ∷ ok (changed (1 ∷ [])) ∷ ok (draft 1) ∷ ok done ∷ ok (changed (2 ∷ []))
-    ∷ ok (changed (2 ∷ [])) ∷ ok (changed (1 ∷ [])) ∷ refused no_step 0 ∷ []
+    ∷ ok (changed (2 ∷ [])) ∷ ok (changed (1 ∷ [])) ∷ refused NoStep 0 ∷ []
 unfolding one two made mixed insert same_list member edit_rule copy_of recopy has work_rule touches stored same_content insert_copy changes latest lowest newest older and_then book_rule step run_calls
 mixed_answers = refl
 

@@ -3,7 +3,7 @@ use Prim.Native.Nat.{ℕ}
 use mathlib.Core.Path.{◌≡◌, refl}
 use Rattle.std.specs.Prelude.{slice_get}
 use Rattle.laws.proofs.Tests.{apart}
-use Rattle.refusal.specs.Numbers.{out_of_range}
+use Rattle.refusal.specs.declared.Reason.TheVariants.{OutOfRange}
 use Rattle.refusal.specs.Answer.{Answer, ok, no}
 use Rattle.codes.specs.Block.{Content}
 use Rattle.steps.specs.Book.{Book}
@@ -39,7 +39,7 @@ pub read_told : (issue : ℕ) {e : Edit} → Reads e → (c : Content) → Told 
 unfolding edit_rule
 read_told issue reads_purge c = told_ok _ refl
 read_told issue reads_count c = told_ok _ refl
-read_told issue (reads_place i) c = told_find (slice_get c.places i) out_of_range _ (λ p e. told_ok _ refl)
+read_told issue (reads_place i) c = told_find (slice_get c.places i) OutOfRange _ (λ p e. told_ok _ refl)
 
 -- accepted or refused
 pub read_leaves : (issue : ℕ) {e : Edit} → Reads e → (c : Content) → (edited issue e c).1 ≡ c

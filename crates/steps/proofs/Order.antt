@@ -7,7 +7,7 @@ use Rattle.std.specs.Prelude.{None, Some}
 use lib.ListN.{length}
 use Rattle.std.specs.Prelude.{slice_get}
 use lib.Dec.{ltb, eqb}
-use Rattle.refusal.specs.Numbers.{wrong_time, no_draft, all_open, no_such_segment, not_taken, taken_already, two_taken, segment_full, only_place, stale_draft, no_step, out_of_range}
+use Rattle.refusal.specs.declared.Reason.TheVariants.{WrongTime, NoDraft, AllOpen, NoSuchSegment, NotTaken, TakenAlready, TwoTaken, SegmentFull, OnlyPlace, StaleDraft, NoStep, OutOfRange}
 use Rattle.refusal.specs.Answer.{ok, no, refused, and_then}
 use Rattle.calendar.specs.Purge.{purge_of}
 use Rattle.calendar.specs.declared.Stamp.{Stamp}
@@ -18,7 +18,7 @@ use Rattle.steps.specs.Calls.{Edit, read_place, add, remove, set_purge, Work, ta
 
 -- ---- the edit's own: 5, 19, 20, 24 (index)
 module _ (issue : ℕ) (c : Content) where
-  pub index_past : (i : ℕ) → slice_get c.places i ≡ None → edit_rule issue (read_place i) c ≡ refused out_of_range 0
+  pub index_past : (i : ℕ) → slice_get c.places i ≡ None → edit_rule issue (read_place i) c ≡ refused OutOfRange 0
   unfolding edit_rule and_then
   index_past i e = rw e
 
@@ -30,7 +30,7 @@ module _ (issue : ℕ) (c : Content) where
   unfolding edit_rule
   add_there p e = rw e
 
-  pub add_full : (p : ℕ) → member p c.places ≡ false → ltb (length c.places) capacity ≡ false → edit_rule issue (add p) c ≡ refused segment_full 0
+  pub add_full : (p : ℕ) → member p c.places ≡ false → ltb (length c.places) capacity ≡ false → edit_rule issue (add p) c ≡ refused SegmentFull 0
   unfolding edit_rule and_then
   add_full p e f = rw (e, f)
 
@@ -43,7 +43,7 @@ module _ (issue : ℕ) (c : Content) where
   unfolding edit_rule
   remove_absent p e = rw e
 
-  pub remove_only : (p : ℕ) → member p c.places ≡ true → eqb (length c.places) 1 ≡ true → edit_rule issue (remove p) c ≡ refused only_place 0
+  pub remove_only : (p : ℕ) → member p c.places ≡ true → eqb (length c.places) 1 ≡ true → edit_rule issue (remove p) c ≡ refused OnlyPlace 0
   unfolding edit_rule and_then
   remove_only p e f = rw (e, f)
 
@@ -52,7 +52,7 @@ module _ (issue : ℕ) (c : Content) where
   unfolding edit_rule and_then
   remove_there p e f = rw (e, f)
 
-  pub purge_none : (t : Stamp) → purge_of issue t ≡ None → edit_rule issue (set_purge t) c ≡ refused wrong_time 0
+  pub purge_none : (t : Stamp) → purge_of issue t ≡ None → edit_rule issue (set_purge t) c ≡ refused WrongTime 0
   unfolding edit_rule and_then
   purge_none t e = rw e
 
@@ -62,15 +62,15 @@ module _ (issue : ℕ) (c : Content) where
 
 -- ---- "13, 24 (place or time), 15, then 16 or 17, 18", before the edit's own
 module _ (b : Book) (d : ℕ) where
-  pub on_closed : (s : ℕ) (w : Work) → draft_at b.drafts d ≡ closed → book_rule b (on d s w) ≡ refused no_draft 0
+  pub on_closed : (s : ℕ) (w : Work) → draft_at b.drafts d ≡ closed → book_rule b (on d s w) ≡ refused NoDraft 0
   unfolding book_rule and_then
   on_closed s w e = rw e
 
-  pub commit_closed : draft_at b.drafts d ≡ closed → book_rule b (commit d) ≡ refused no_draft 0
+  pub commit_closed : draft_at b.drafts d ≡ closed → book_rule b (commit d) ≡ refused NoDraft 0
   unfolding book_rule and_then
   commit_closed e = rw e
 
-  pub drop_closed : draft_at b.drafts d ≡ closed → book_rule b (drop d) ≡ refused no_draft 0
+  pub drop_closed : draft_at b.drafts d ≡ closed → book_rule b (drop d) ≡ refused NoDraft 0
   unfolding book_rule and_then
   drop_closed e = rw e
 
@@ -80,20 +80,20 @@ module _ (b : Book) (d : ℕ) where
     drop_open = rw opened
 
     module _ (s : ℕ) where
-      pub on_far : (w : Work) → in_range w ≡ false → book_rule b (on d s w) ≡ refused out_of_range 0
+      pub on_far : (w : Work) → in_range w ≡ false → book_rule b (on d s w) ≡ refused OutOfRange 0
       unfolding book_rule and_then
       on_far w r = rw (opened, r)
 
-      pub on_gone : (w : Work) → in_range w ≡ true → at b.segments s ≡ None → book_rule b (on d s w) ≡ refused no_such_segment 0
+      pub on_gone : (w : Work) → in_range w ≡ true → at b.segments s ≡ None → book_rule b (on d s w) ≡ refused NoSuchSegment 0
       unfolding book_rule and_then
       on_gone w r e = rw (opened, r, e)
 
       module _ (c : Content) (there : at b.segments s ≡ Some c) where
-        pub on_again : has s ks ≡ true → book_rule b (on d s taking) ≡ refused taken_already 0
+        pub on_again : has s ks ≡ true → book_rule b (on d s taking) ≡ refused TakenAlready 0
         unfolding book_rule work_rule and_then
         on_again h = rw (opened, there, h)
 
-        pub on_full : has s ks ≡ false → ltb (length ks) 2 ≡ false → book_rule b (on d s taking) ≡ refused two_taken 0
+        pub on_full : has s ks ≡ false → ltb (length ks) 2 ≡ false → book_rule b (on d s taking) ≡ refused TwoTaken 0
         unfolding book_rule work_rule and_then
         on_full h g = rw (opened, there, h, g)
 
@@ -103,7 +103,7 @@ module _ (b : Book) (d : ℕ) where
         on_taken h g = rw (opened, there, h, g)
 
         module _ (e : Edit) (r : in_range (editing e) ≡ true) where
-          pub on_absent : copy_of s ks ≡ None → book_rule b (on d s (editing e)) ≡ refused not_taken 0
+          pub on_absent : copy_of s ks ≡ None → book_rule b (on d s (editing e)) ≡ refused NotTaken 0
           unfolding book_rule work_rule and_then
           on_absent q = rw (opened, r, there, q)
 
@@ -118,16 +118,16 @@ module _ (b : Book) (d : ℕ) where
             on_edited v x q = rw (opened, r, there, copied, q)
 
       -- where two faults meet: an index is looked at after the segment and the copy, though a place and a time are looked at before them
-      pub index_gone : (i : ℕ) → at b.segments s ≡ None → book_rule b (on d s (editing (read_place i))) ≡ refused no_such_segment 0
+      pub index_gone : (i : ℕ) → at b.segments s ≡ None → book_rule b (on d s (editing (read_place i))) ≡ refused NoSuchSegment 0
       index_gone i e = on_gone (editing (read_place i)) refl e
 
       pub index_absent : (i : ℕ) (c : Content) → at b.segments s ≡ Some c → copy_of s ks ≡ None
-          → book_rule b (on d s (editing (read_place i))) ≡ refused not_taken 0
+          → book_rule b (on d s (editing (read_place i))) ≡ refused NotTaken 0
       index_absent i c e q = on_absent c e (read_place i) refl q
 
 -- 21
 module _ (b : Book) (d : ℕ) (ks : List Copy) where
-  pub commit_stale : draft_at b.drafts d ≡ working ks true → book_rule b (commit d) ≡ refused stale_draft 0
+  pub commit_stale : draft_at b.drafts d ≡ working ks true → book_rule b (commit d) ≡ refused StaleDraft 0
   unfolding book_rule and_then
   commit_stale e = rw e
 
@@ -138,7 +138,7 @@ module _ (b : Book) (d : ℕ) (ks : List Copy) where
 
 -- 14, 22
 module _ (b : Book) where
-  pub open_none : lowest 1 b.drafts ≡ None → book_rule b opening ≡ refused all_open 0
+  pub open_none : lowest 1 b.drafts ≡ None → book_rule b opening ≡ refused AllOpen 0
   unfolding book_rule and_then
   open_none e = rw e
 
@@ -146,7 +146,7 @@ module _ (b : Book) where
   unfolding book_rule and_then
   open_lowest d e = rw e
 
-  pub undo_none : newest b.history.kept ≡ None → book_rule b undo ≡ refused no_step 0
+  pub undo_none : newest b.history.kept ≡ None → book_rule b undo ≡ refused NoStep 0
   unfolding book_rule and_then
   undo_none e = rw e
 

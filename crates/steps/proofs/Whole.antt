@@ -8,7 +8,7 @@ use Rattle.std.specs.Prelude.{Option, None, Some}
 use lib.Dec.{eqb}
 use borrow.Author.Tests.{eqb-true, eq-eqb}
 use Rattle.laws.proofs.Tests.{apart}
-use Rattle.refusal.specs.Numbers.{all_open, no_step}
+use Rattle.refusal.specs.declared.Reason.TheVariants.{AllOpen, NoStep}
 use Rattle.refusal.specs.Answer.{Answer, ok, no, and_then}
 use Rattle.codes.specs.Block.{Content}
 use Rattle.steps.specs.Book.{Copy, Draft, closed, working, History, Book, at, put, draft_at, new_book}
@@ -90,7 +90,7 @@ working_stale : {ks js : List Copy} {p q : Bool} → working ks p ≡ working js
 working_stale h = cc
 
 opens_kept : (b : Book) (past : List Event) → Inv b past → (o : Option ℕ)
-    → Kept b past opening (settle b (and_then (must_find o all_open) λ d. ok (draft d, with_drafts b (put b.drafts d (working [] false)))))
+    → Kept b past opening (settle b (and_then (must_find o AllOpen) λ d. ok (draft d, with_drafts b (put b.drafts d (working [] false)))))
 unfolding Inv Runs draft_on and_then
 opens_kept b past v None = record { same = refl; inv = v }
 opens_kept b past v (Some n) =
@@ -240,7 +240,7 @@ drops_kept b past v d (working js stale) c =
 
 -- ---- undo
 abbrev undoes : Book → Option (List Copy) → Answer (Value × Book)
-undoes b o = and_then (must_find o no_step) λ (cs : List Copy). ok (changed (segments_named cs), undone b cs)
+undoes b o = and_then (must_find o NoStep) λ (cs : List Copy). ok (changed (segments_named cs), undone b cs)
 
 -- an undo where no draft is open
 undo_last : (b : Book) (o : Option (List Copy)) → newest b.history.kept ≡ o →

@@ -3,7 +3,8 @@ use Rattle.std.specs.Prelude.{ℕ, suc, ◌-◌, Bool, true, false, not, cond, �
 use Rattle.std.specs.Prelude.{Option, None, Some}
 use Rattle.std.specs.Prelude.{slice_get}
 use Rattle.std.proofs.Math.ListN as list
-use Rattle.refusal.specs.Numbers.{Reason, wrong_time, no_draft, all_open, no_such_segment, not_taken, taken_already, two_taken, segment_full, only_place, stale_draft, no_step, out_of_range}
+use Rattle.refusal.specs.declared.Reason.{Reason}
+use Rattle.refusal.specs.declared.Reason.TheVariants.{WrongTime, NoDraft, AllOpen, NoSuchSegment, NotTaken, TakenAlready, TwoTaken, SegmentFull, OnlyPlace, StaleDraft, NoStep, OutOfRange}
 use Rattle.refusal.specs.Answer as refusal
 use Rattle.refusal.specs.Answer.{ok, no, refused, must, and_then}
 use Rattle.calendar.specs.Calendar.{is_time}
@@ -80,22 +81,22 @@ unfoldable pub edit_rule : ℕ → Edit → Content → refusal.Answer (Value ×
 edit_rule issue read_purge c = ok (number c.purge, c)
 edit_rule issue read_count c = ok (number (length c.places), c)
 edit_rule issue (read_place i) c =
-    and_then (must_find (slice_get c.places i) out_of_range) λ p.
+    and_then (must_find (slice_get c.places i) OutOfRange) λ p.
     ok (number p, c)
 -- "adding one that is there .. is accepted and changes nothing"; 19 for "adding an absent place to 120"
 edit_rule issue (add p) c =
     cond (member p c.places) (ok (was true, c))
-    (and_then (must (ltb (length c.places) capacity) segment_full 0) λ _.
+    (and_then (must (ltb (length c.places) capacity) SegmentFull 0) λ _.
     ok (was false, with_places c (insert p c.places)))
 -- "or removing one that is not, is accepted and changes nothing"; 20 for "removing the only place"
 edit_rule issue (remove p) c =
     cond (member p c.places)
-    (and_then (must (not (eqb (length c.places) 1)) only_place 0) λ _.
+    (and_then (must (not (eqb (length c.places) 1)) OnlyPlace 0) λ _.
     ok (was true, with_places c (without p c.places)))
     (ok (was false, c))
 -- "stores and answers the minute they give", or 5
 edit_rule issue (set_purge s) c =
-    and_then (must_find (purge_of issue s) wrong_time) λ minute.
+    and_then (must_find (purge_of issue s) WrongTime) λ minute.
     ok (number minute, record { purge = minute; places = c.places })
 
 -- ---- work of one draft on segment s
@@ -128,12 +129,12 @@ has s (k ∷ ks) = eqb s k.segment || has s ks
 unfoldable pub work_rule : ℕ → ℕ → Content → Work → List Copy → refusal.Answer (Value × List Copy)
 -- 17, 18; "Take: copies a segment into the draft, at most two"
 work_rule issue s c taking ks =
-    and_then (must (not (has s ks)) taken_already 0) λ _.
-    and_then (must (ltb (length ks) 2) two_taken 0) λ _.
+    and_then (must (not (has s ks)) TakenAlready 0) λ _.
+    and_then (must (ltb (length ks) 2) TwoTaken 0) λ _.
     ok (done, ks ++ (record { segment = s; held = c } ∷ []))
 -- 16, then 5, 19, 20 or 24 (index)
 work_rule issue s c (editing e) ks =
-    and_then (must_find (copy_of s ks) not_taken) λ copy.
+    and_then (must_find (copy_of s ks) NotTaken) λ copy.
     and_then (edit_rule issue e copy) λ r.
     ok (r.0, recopy s r.1 ks)
 
@@ -240,27 +241,27 @@ open_draft (working ks stale) = Some (record { copies = ks; stale = stale })
 unfoldable pub book_rule : Book → Call → refusal.Answer (Value × Book)
 -- 14
 book_rule b opening =
-    and_then (must_find (lowest 1 b.drafts) all_open) λ d.
+    and_then (must_find (lowest 1 b.drafts) AllOpen) λ d.
     ok (draft d, with_drafts b (put b.drafts d (working [] false)))
 -- 13, 24 (place or time), 15, then the work's own
 book_rule b (on d s w) =
-    and_then (must_find (open_draft (draft_at b.drafts d)) no_draft) λ x.
-    and_then (must (in_range w) out_of_range 0) λ _.
-    and_then (must_find (at b.segments s) no_such_segment) λ c.
+    and_then (must_find (open_draft (draft_at b.drafts d)) NoDraft) λ x.
+    and_then (must (in_range w) OutOfRange 0) λ _.
+    and_then (must_find (at b.segments s) NoSuchSegment) λ c.
     and_then (work_rule b.issue s c w x.copies) λ r.
     ok (r.0, with_drafts b (put b.drafts d (working r.1 x.stale)))
 -- 13, 21
 book_rule b (commit d) =
-    and_then (must_find (open_draft (draft_at b.drafts d)) no_draft) λ x.
-    and_then (must (not x.stale) stale_draft 0) λ _.
+    and_then (must_find (open_draft (draft_at b.drafts d)) NoDraft) λ x.
+    and_then (must (not x.stale) StaleDraft 0) λ _.
     ok (changed (segments_named (changes b.segments x.copies)), committed b d (changes b.segments x.copies))
 -- 13; "Drop closes."
 book_rule b (drop d) =
-    and_then (must_find (open_draft (draft_at b.drafts d)) no_draft) λ _.
+    and_then (must_find (open_draft (draft_at b.drafts d)) NoDraft) λ _.
     ok (done, with_drafts b (put b.drafts d closed))
 -- 22
 book_rule b undo =
-    and_then (must_find (newest b.history.kept) no_step) λ cs.
+    and_then (must_find (newest b.history.kept) NoStep) λ cs.
     ok (changed (segments_named cs), undone b cs)
 
 -- what the call answers, and the book that it leaves

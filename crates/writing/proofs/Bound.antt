@@ -8,7 +8,7 @@ use Rattle.std.specs.Prelude.{Option, None, Some}
 use lib.ListN.{length, length-append}
 use lib.Dec.{eqb}
 use Rattle.laws.proofs.Tests.{by, apart, either_way}
-use Rattle.refusal.specs.Numbers.{out_of_range}
+use Rattle.refusal.specs.declared.Reason.TheVariants.{OutOfRange}
 use Rattle.refusal.specs.Answer.{ok, refused}
 use Rattle.lines.specs.Bytes.{bytes}
 use Rattle.lines.specs.Lines.{end_bytes}
@@ -111,7 +111,7 @@ module _ (end : End) where
   -- and so has every block that the rule of writing gives.
   pub block_most_lem : (ps : List ℕ) (minute : ℕ) (block : List ℕ) → written_block end ps minute ≡ ok block → length block ≤ written_block_most
   unfolding written_block
-  block_most_lem ps minute block e = by (is_set ps) (λ q. go q (date_of minute) (rw q at e)) λ q. let f : refused out_of_range 0 ≡ ok block = rw q at e in apart cc
+  block_most_lem ps minute block e = by (is_set ps) (λ q. go q (date_of minute) (rw q at e)) λ q. let f : refused OutOfRange 0 ≡ ok block = rw q at e in apart cc
     where
       go : is_set ps ≡ true → (o : Option Date) → dated_block end ps o ≡ ok block → length block ≤ written_block_most
       go q None f = apart cc

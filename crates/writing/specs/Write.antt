@@ -1,28 +1,27 @@
 -- Document 01, "Write": the rule of the call on what it is handed, for each end that the lines of the block may have.
 use Rattle.std.specs.Prelude.{ℕ, ◌≡◌, List, ◌++◌, cond, length, drop, leb}
-use Rattle.std.specs.Prelude.{Option, None, Some}
-use Rattle.refusal.specs.Numbers.{output_short, out_of_range}
-use Rattle.refusal.specs.Answer.{Answer, ok, no, refused, and_then, paper_refusal}
+use Rattle.std.specs.Prelude.{Option, None, Some, Result}
+use Rattle.refusal.specs.declared.Reason.TheVariants.{OutputShort, OutOfRange}
+use Rattle.refusal.specs.Answer.{Answer, ok, no, refused, and_then, answer_of}
+use Rattle.refusal.specs.declared.Refusal.{Refusal}
 use Rattle.lines.specs.declared.End.{End}
 use Rattle.lines.specs.declared.End.TheVariants.{CrCrLf}
 use Rattle.calendar.specs.Calendar.{date_of}
 use Rattle.calendar.specs.declared.Date.{Date}
 use Rattle.codes.specs.Places.{is_set}
 use Rattle.codes.specs.Written.{written}
-use Rattle.writing.specs.declared.Written.{Written}
-use Rattle.writing.specs.declared.Written.TheVariants.{Length, Refused}
 
 -- the block of these places and this purge minute, its lines ending so: 24 for what is no segment's content
 abbrev pub dated_block : End → List ℕ → Option Date → Answer (List ℕ)
-dated_block end ps None = refused out_of_range 0
+dated_block end ps None = refused OutOfRange 0
 dated_block end ps (Some d) = ok (written end ps d.stamp)
 
 unfoldable pub written_block : End → List ℕ → ℕ → Answer (List ℕ)
-written_block end ps minute = cond (is_set ps) (dated_block end ps (date_of minute)) (refused out_of_range 0)
+written_block end ps minute = cond (is_set ps) (dated_block end ps (date_of minute)) (refused OutOfRange 0)
 
 -- "output shorter than the block"
 unfoldable pub fitting : ℕ → List ℕ → Answer (List ℕ)
-fitting room block = cond (leb (length block) room) (ok block) (refused output_short 0)
+fitting room block = cond (leb (length block) room) (ok block) (refused OutputShort 0)
 
 unfoldable pub write_rule : End → ℕ → List ℕ → ℕ → Answer (List ℕ)
 write_rule end room ps minute = and_then (written_block end ps minute) (fitting room)
@@ -36,15 +35,11 @@ abbrev pub output_of : Answer (List ℕ) → List ℕ → List ℕ
 output_of (ok block) out = block ++ drop (length block) out
 output_of (no number place) out = out
 
-abbrev pub paper_written : Written → Answer ℕ
-paper_written (Length n) = ok n
-paper_written (Refused r) = paper_refusal r
-
 -- the promise of a block whose lines end so: the answer, and the output afterwards
-pub record WritesEnded (end : End) (before after places : List ℕ) (minute : ℕ) (r : Written) : Type 0 where
-  pub answer : paper_written r ≡ length_of (write_rule end (length before) places minute)
+pub record WritesEnded (end : End) (before after places : List ℕ) (minute : ℕ) (r : Result ℕ Refusal) : Type 0 where
+  pub answer : answer_of r ≡ length_of (write_rule end (length before) places minute)
   pub output : after ≡ output_of (write_rule end (length before) places minute) before
 
 -- the promise of the write call: "Lines end CR CR LF"
-abbrev pub Writes : List ℕ → List ℕ → List ℕ → ℕ → Written → Type 0
+abbrev pub Writes : List ℕ → List ℕ → List ℕ → ℕ → Result ℕ Refusal → Type 0
 Writes before after places minute r = WritesEnded CrCrLf before after places minute r

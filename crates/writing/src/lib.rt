@@ -13,7 +13,7 @@ ghost use Rattle.writing.specs.Pen.{Stored, element_most, run_from, Room, ink_mo
 
 use calendar::Stamp;
 use lines::End;
-use refusal::Refusal;
+use refusal::{Reason, Refusal};
 
 // ZZZ999 is the last place before this number.
 const PLACES_END: u32 = 1352000;
@@ -26,13 +26,6 @@ const WRITTEN_MOST: usize = 66;
 
 // A purge has so many bytes, `DDHHMM-`.
 const PURGE_LENGTH: usize = 7;
-
-// The length of the block that was written.
-#[derive(Clone, Copy)]
-pub enum Written {
-    Length(usize),
-    Refused(Refusal),
-}
 
 // Where the next byte goes, and how many bytes its line has. How lines end is handed on beside it: in the pen it would be copied at every element.
 #[derive(Clone, Copy)]
@@ -338,35 +331,26 @@ fn compose(out: &mut [u8], places: &[u32], stamp: Stamp, end: End) -> usize
     s.close(out, stamp, end)
 }
 
-fn refused(number: usize) -> Written
-    ensures { result ≡ Written.Refused (record { number = number; place = 0 }) }
-{
-    Written::Refused(Refusal { number, place: 0 })
-}
-
-// Writes the block of these places and this purge minute to the front of out, its lines ending so. It is composed apart, so that an output that is too short stays as it was.
-pub fn write_ended(out: &mut [u8], places: &[u32], purge: usize, end: End) -> Written
+// Writes the block of these places and this purge minute to the front of out, its lines ending so, and answers its length. It is composed apart, so that an output that is
+// too short stays as it was.
+pub fn write_ended(out: &mut [u8], places: &[u32], purge: usize, end: End) -> Result<usize, Refusal>
     ensures { WritesEnded end out.old out.new places.now purge result }
 {
-    if is_set(places) {
-        let Some(date) = calendar::date_of(purge) else {
-            return refused(refusal::OUT_OF_RANGE);
-        };
-        let mut block = [0u8; 2048];
-        let stamp = date.stamp;
-        let n = compose(&mut block, places, stamp, end);
-        if out.len() < n {
-            return refused(refusal::OUTPUT_SHORT);
-        }
-        out[..n].copy_from_slice(&block[..n]);
-        Written::Length(n)
-    } else {
-        refused(refusal::OUT_OF_RANGE)
+    if !is_set(places) {
+        return Err(Reason::OutOfRange.into());
     }
+    let date = calendar::date_of(purge).ok_or(Reason::OutOfRange)?;
+    let mut block = [0u8; 2048];
+    let n = compose(&mut block, places, date.stamp, end);
+    if out.len() < n {
+        return Err(Reason::OutputShort.into());
+    }
+    out[..n].copy_from_slice(&block[..n]);
+    Ok(n)
 }
 
 // The write call's block, whose lines end CR CR LF.
-pub fn write_block(out: &mut [u8], places: &[u32], purge: usize) -> Written
+pub fn write_block(out: &mut [u8], places: &[u32], purge: usize) -> Result<usize, Refusal>
     ensures { Writes out.old out.new places.now purge result }
 {
     write_ended(out, places, purge, End::CrCrLf)

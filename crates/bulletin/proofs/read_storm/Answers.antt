@@ -8,8 +8,8 @@ returns-in_default c = search (storm_none, rules)
 pub returns-then-closes : goal.returns-then-closes
 returns-then-closes c = search (storm_closed, rules)
 
-pub overflow_sub-result : goal.overflow_sub-result
-overflow_sub-result c = search (storm_room, rules)
+pub overflow_sub-l : goal.overflow_sub-l
+overflow_sub-l c = search (storm_room, rules)
 
 pub returns-in-Right : goal.returns-in-Right
 returns-in-Right c = search (storm_right, rules)

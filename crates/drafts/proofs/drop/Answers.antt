@@ -10,12 +10,12 @@ use Rattle.drafts.proofs.drop.Goals as goal
 pub returns-then-book-ne25088 : goal.returns-then-book-ne25088
 returns-then-book-ne25088 c = search (ends_short, rules)
 
-pub returns-then-not-sound : goal.returns-then-not-sound
-returns-then-not-sound c = search (ends_unsound, rules)
+pub returns-then-not-is_sound : goal.returns-then-not-is_sound
+returns-then-not-is_sound c = search (ends_unsound, rules)
 
-pub returns-then-not-opened : goal.returns-then-not-opened
+pub returns-then-not-is_open : goal.returns-then-not-is_open
 unfolding Bytes
-returns-then-not-opened c = let l = c.args.book.now in
+returns-then-not-is_open c = let l = c.args.book.now in
     let y : Bytes l = λ i. omega (arith, c.slice_known-1.given i) in
     search (drop_shut, y, rules)
 
@@ -26,5 +26,5 @@ pub returns : goal.returns
 unfolding Bytes
 returns c = let l = c.args.book.now in
     let y : Bytes l = λ i. omega (arith, c.slice_known-1.given i) in
-    drop_does l _ _ c.is_open-opened.ensures y c.if-book-ne25088.false _ c.is_sound-sound.ensures (ap not c.if-not-sound.false) _
-    (ap not c.if-not-opened.false) (rw c.as_book_mut-book.ensures.value at c.close_draft.ensures) _ c.seal_index.ensures
+    drop_does l _ _ c.is_open.ensures y c.if-book-ne25088.false _ c.is_sound.ensures (ap not c.if-not-is_sound.false) _
+    (ap not c.if-not-is_open.false) (rw c.as_book_mut-book.ensures.value at c.close_draft.ensures) _ c.seal_index.ensures

@@ -1,40 +1,57 @@
+use mathlib.Core.Path.{◌≡◌}
 use native.Mathlib.Omega.{arith}
 use Rattle.blocks.specs.Block.{Bytes}
 use Rattle.copies.proofs.Ways.{admitting, working, load_long, load_block, load_few}
 use Rattle.drafts.proofs.CopyReads.{refused_read, absent_read, reads_purge}
+use Rattle.std.specs.Prelude.{None, Some, Ok, Err}
+use Rattle.refusal.specs.Answer.{refusal_for}
+use Rattle.refusal.specs.declared.Reason.TheVariants.{NotTaken}
+use Rattle.refusal.proofs.Exits.{handed, Refuses, none_refused}
 use Rattle.std.proofs.Common.{rules}
 use Rattle.drafts.proofs.read_purge.Goals as goal
 
-pub returns-in-Refused : goal.returns-in-Refused
+pub returns-in_err-admit : goal.returns-in_err-admit
 unfolding Bytes
-returns-in-Refused c = let l = c.args.book.now in
+returns-in_err-admit c = let l = c.args.book.now in
     let y : Bytes l = λ i. omega (arith, c.shared_slice_known-1.given i) in
-    search (refused_read, y, rules)
+    let z : c.admit.result ≡ Err c.in_err-admit.field-0.0 = c.in_err-admit.was in
+    rw (handed c.from_residual.result _ c.from_residual.ensures.1) (search (refused_read, y, rules))
 
 pub find_copy-requires : goal.find_copy-requires
-find_copy-requires c = search (admitting, rules)
+find_copy-requires c =
+    let is : c.admit.result ≡ Ok tt = c.in_ok-admit.was in
+    search (admitting, rules)
 
-pub returns-in_default-find_copy : goal.returns-in_default-find_copy
+pub returns-in_err-k : goal.returns-in_err-k
 unfolding Bytes
-returns-in_default-find_copy c = let l = c.args.book.now in
+returns-in_err-k c = let l = c.args.book.now in
     let y : Bytes l = λ i. omega (arith, c.shared_slice_known-1.given i) in
-    search (absent_read, y, rules)
+    let is : c.admit.result ≡ Ok tt = c.in_ok-admit.was in
+    let p : Refuses c.find_copy.result (refusal_for NotTaken 0) c.from_residual-in_err-k.result = search (none_refused, rules) in
+    let n : c.find_copy.result ≡ None = p.nothing in
+    rw p.is (search (absent_read, y, rules))
 
 pub as_book-requires : goal.as_book-requires
 unfolding Bytes
 as_book-requires c = let l = c.args.book.now in
     let y : Bytes l = λ i. omega (arith, c.shared_slice_known-1.given i) in
+    let is : c.admit.result ≡ Ok tt = c.in_ok-admit.was in
+    let q : c.find_copy.result ≡ Some c.in_ok-k.k = grind arith in
     search (load_long, y, rules)
 
 pub load-h-requires : goal.load-h-requires
 unfolding Bytes
 load-h-requires c = let l = c.args.book.now in
     let y : Bytes l = λ i. omega (arith, c.shared_slice_known-1.given i) in
+    let is : c.admit.result ≡ Ok tt = c.in_ok-admit.was in
+    let q : c.find_copy.result ≡ Some c.in_ok-k.k = grind arith in
     (search (load_block, y, rules), rw c.as_book.ensures (search (load_few, y, rules)))
 
 pub returns : goal.returns
 unfolding Bytes
 returns c = let l = c.args.book.now in
     let y : Bytes l = λ i. omega (arith, c.shared_slice_known-1.given i) in
+    let is : c.admit.result ≡ Ok tt = c.in_ok-admit.was in
+    let q : c.find_copy.result ≡ Some c.in_ok-k.k = grind arith in
     let holds = rw c.as_book.ensures at c.load-h.ensures.is in
     search (reads_purge, working, y, holds, rules)

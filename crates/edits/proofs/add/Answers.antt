@@ -1,75 +1,101 @@
 use native.Mathlib.Omega.{arith}
-use mathlib.Core.Path.{refl, sym, ◌∙◌}
+use mathlib.Core.Path.{◌≡◌, sym, ◌∙◌}
 use Rattle.blocks.specs.Block.{Bytes}
 use Rattle.copies.proofs.Ways.{refused_does, admitting, ranging, working, load_long, load_block, load_few, absent_does}
 use Rattle.edits.proofs.Ways.{place_low, held_up, add_old, add_full, add_new}
+use Rattle.std.specs.Prelude.{None, Some, Ok, Err}
+use Rattle.refusal.specs.Answer.{refusal_for}
+use Rattle.refusal.specs.declared.Reason.TheVariants.{NotTaken}
+use Rattle.refusal.proofs.Exits.{handed, Refuses, none_refused}
 use Rattle.std.proofs.Common.{rules}
 use Rattle.edits.proofs.add.Goals as goal
 
-pub returns-in-Refused : goal.returns-in-Refused
+pub returns-in_err-admit : goal.returns-in_err-admit
 unfolding Bytes
-returns-in-Refused c = let l = c.args.book.now in
+returns-in_err-admit c = let l = c.args.book.now in
     let y : Bytes l = λ i. omega (arith, c.slice_known-1.given i) in
-    search (refused_does, y, rules)
+    let z : c.admit.result ≡ Err c.in_err-admit.field-0.0 = c.in_err-admit.was in
+    rw (handed c.from_residual.result _ c.from_residual.ensures.1) (search (refused_does, y, rules))
 
 pub find_copy-requires : goal.find_copy-requires
-find_copy-requires c = search (admitting, rules)
+find_copy-requires c =
+    let is : c.admit.result ≡ Ok tt = c.in_ok-admit.was in
+    search (admitting, rules)
 
-pub returns-in_default-find_copy : goal.returns-in_default-find_copy
+pub returns-in_err-k : goal.returns-in_err-k
 unfolding Bytes
-returns-in_default-find_copy c = let l = c.args.book.now in
+returns-in_err-k c = let l = c.args.book.now in
     let y : Bytes l = λ i. omega (arith, c.slice_known-1.given i) in
-    search (absent_does, ranging, y, rules)
+    let is : c.admit.result ≡ Ok tt = c.in_ok-admit.was in
+    let p : Refuses c.find_copy.result (refusal_for NotTaken 0) c.from_residual-in_err-k.result = search (none_refused, rules) in
+    let n : c.find_copy.result ≡ None = p.nothing in
+    rw p.is (search (absent_does, ranging, y, rules))
 
 pub as_book-requires : goal.as_book-requires
 unfolding Bytes
 as_book-requires c = let l = c.args.book.now in
     let y : Bytes l = λ i. omega (arith, c.slice_known-1.given i) in
+    let is : c.admit.result ≡ Ok tt = c.in_ok-admit.was in
+    let q : c.find_copy.result ≡ Some c.in_ok-k.k = grind arith in
     search (load_long, y, rules)
 
 pub load-h-requires : goal.load-h-requires
 unfolding Bytes
 load-h-requires c = let l = c.args.book.now in
     let y : Bytes l = λ i. omega (arith, c.slice_known-1.given i) in
+    let is : c.admit.result ≡ Ok tt = c.in_ok-admit.was in
+    let q : c.find_copy.result ≡ Some c.in_ok-k.k = grind arith in
     (search (load_block, y, rules), rw c.as_book.ensures (search (load_few, y, rules)))
 
-pub overflow_cast-place : goal.overflow_cast-place
-overflow_cast-place c = search (place_low, rules)
+pub narrow-place-requires : goal.narrow-place-requires
+narrow-place-requires c =
+    let is : c.admit.result ≡ Ok tt = c.in_ok-admit.was in
+    search (place_low, rules)
 
-pub returns-then-has_place : goal.returns-then-has_place
+pub returns-then-there : goal.returns-then-there
 unfolding Bytes
-returns-then-has_place c = let l = c.args.book.now in
+returns-then-there c = let l = c.args.book.now in
     let y : Bytes l = λ i. omega (arith, c.slice_known-1.given i) in
-    let w = working l y _ _ _ _ c.in_default.is c.admit-verdict.ensures _ c.find_copy.ensures _ c.in-Some.is in
-    let r = ranging l _ _ _ _ c.in_default.is c.admit-verdict.ensures in
-    add_old l _ _ _ w _ c.load-h.ensures.fits (rw c.as_book.ensures at c.load-h.ensures.is) _ _ refl r _ c.has_place.ensures c.if-has_place.true
+    let is : c.admit.result ≡ Ok tt = c.in_ok-admit.was in
+    let q : c.find_copy.result ≡ Some c.in_ok-k.k = grind arith in
+    let w = working l y _ _ _ _ is c.admit.ensures _ c.find_copy.ensures _ q in
+    let r = ranging l _ _ _ _ is c.admit.ensures in
+    add_old l _ _ _ w _ c.load-h.ensures.fits (rw c.as_book.ensures at c.load-h.ensures.is) _ _ c.narrow-place.ensures r _ c.has_place-there.ensures c.if-there.true
 
 pub returns-then-h-ge120 : goal.returns-then-h-ge120
 unfolding Bytes
 returns-then-h-ge120 c = let l = c.args.book.now in
     let y : Bytes l = λ i. omega (arith, c.slice_known-1.given i) in
-    let w = working l y _ _ _ _ c.in_default.is c.admit-verdict.ensures _ c.find_copy.ensures _ c.in-Some.is in
-    let r = ranging l _ _ _ _ c.in_default.is c.admit-verdict.ensures in
-    add_full l _ _ _ w _ c.load-h.ensures.fits (rw c.as_book.ensures at c.load-h.ensures.is) _ _ refl r _ c.has_place.ensures c.if-has_place.false c.if-h-ge120.true _ c.refused-then-h-ge120.ensures
+    let is : c.admit.result ≡ Ok tt = c.in_ok-admit.was in
+    let q : c.find_copy.result ≡ Some c.in_ok-k.k = grind arith in
+    let w = working l y _ _ _ _ is c.admit.ensures _ c.find_copy.ensures _ q in
+    let r = ranging l _ _ _ _ is c.admit.ensures in
+    add_full l _ _ _ w _ c.load-h.ensures.fits (rw c.as_book.ensures at c.load-h.ensures.is) _ _ c.narrow-place.ensures r _ c.has_place-there.ensures c.if-there.false c.if-h-ge120.true _ c.into.ensures
 
 pub with_place-new-requires : goal.with_place-new-requires
 unfolding Bytes
 with_place-new-requires c = let l = c.args.book.now in
     let y : Bytes l = λ i. omega (arith, c.slice_known-1.given i) in
-    let w = working l y _ _ _ _ c.in_default.is c.admit-verdict.ensures _ c.find_copy.ensures _ c.in-Some.is in
-    record { sound = search rules; room = search rules; ascending = held_up l _ _ _ w _ c.load-h.ensures.fits (rw c.as_book.ensures at c.load-h.ensures.is); absent = sym c.has_place.ensures ∙ c.if-has_place.false }
+    let is : c.admit.result ≡ Ok tt = c.in_ok-admit.was in
+    let q : c.find_copy.result ≡ Some c.in_ok-k.k = grind arith in
+    let w = working l y _ _ _ _ is c.admit.ensures _ c.find_copy.ensures _ q in
+    record { fits_2 = search rules; count_lt_capacity = search rules; h_value = held_up l _ _ _ w _ c.load-h.ensures.fits (rw c.as_book.ensures at c.load-h.ensures.is); h_value_2 = sym c.has_place-there.ensures ∙ c.if-there.false }
 
 pub store_held-requires : goal.store_held-requires
 unfolding Bytes
 store_held-requires c = let l = c.args.book.now in
     let y : Bytes l = λ i. omega (arith, c.slice_known-1.given i) in
-    let w = working l y _ _ _ _ c.in_default.is c.admit-verdict.ensures _ c.find_copy.ensures _ c.in-Some.is in
+    let is : c.admit.result ≡ Ok tt = c.in_ok-admit.was in
+    let q : c.find_copy.result ≡ Some c.in_ok-k.k = grind arith in
+    let w = working l y _ _ _ _ is c.admit.ensures _ c.find_copy.ensures _ q in
     record { book_len = (w.long, w.block); fits = search rules }
 
 pub returns : goal.returns
 unfolding Bytes
 returns c = let l = c.args.book.now in
     let y : Bytes l = λ i. omega (arith, c.slice_known-1.given i) in
-    let w = working l y _ _ _ _ c.in_default.is c.admit-verdict.ensures _ c.find_copy.ensures _ c.in-Some.is in
-    let r = ranging l _ _ _ _ c.in_default.is c.admit-verdict.ensures in
-    add_new l _ _ _ w _ c.load-h.ensures.fits (rw c.as_book.ensures at c.load-h.ensures.is) _ _ refl r _ c.has_place.ensures c.if-has_place.false c.if-h-ge120.false _ c.with_place-new.ensures.is c.with_place-new.ensures.fits _ c.store_held.ensures
+    let is : c.admit.result ≡ Ok tt = c.in_ok-admit.was in
+    let q : c.find_copy.result ≡ Some c.in_ok-k.k = grind arith in
+    let w = working l y _ _ _ _ is c.admit.ensures _ c.find_copy.ensures _ q in
+    let r = ranging l _ _ _ _ is c.admit.ensures in
+    add_new l _ _ _ w _ c.load-h.ensures.fits (rw c.as_book.ensures at c.load-h.ensures.is) _ _ c.narrow-place.ensures r _ c.has_place-there.ensures c.if-there.false c.if-h-ge120.false _ c.with_place-new.ensures.is c.with_place-new.ensures.fits _ c.store_held.ensures

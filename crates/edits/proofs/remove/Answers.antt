@@ -1,69 +1,102 @@
-use mathlib.Core.Path.{refl, ap}
+use mathlib.Core.Path.{◌≡◌, ap}
 use mathlib.Core.Bool.{not}
 use native.Mathlib.Omega.{arith}
 use Rattle.blocks.specs.Block.{Bytes}
 use Rattle.copies.proofs.Ways.{refused_does, admitting, ranging, working, load_long, load_block, load_few, absent_does}
-use Rattle.edits.proofs.Ways.{place_low, remove_none, remove_only, remove_old}
+use Rattle.edits.proofs.Ways.{place_low, held_up, remove_none, remove_only, remove_old}
+use Rattle.std.specs.Prelude.{None, Some, Ok, Err}
+use Rattle.refusal.specs.Answer.{refusal_for}
+use Rattle.refusal.specs.declared.Reason.TheVariants.{NotTaken}
+use Rattle.refusal.proofs.Exits.{handed, Refuses, none_refused}
 use Rattle.std.proofs.Common.{rules}
 use Rattle.edits.proofs.remove.Goals as goal
 
-pub returns-in-Refused : goal.returns-in-Refused
+pub returns-in_err-admit : goal.returns-in_err-admit
 unfolding Bytes
-returns-in-Refused c = let l = c.args.book.now in
+returns-in_err-admit c = let l = c.args.book.now in
     let y : Bytes l = λ i. omega (arith, c.slice_known-1.given i) in
-    search (refused_does, y, rules)
+    let z : c.admit.result ≡ Err c.in_err-admit.field-0.0 = c.in_err-admit.was in
+    rw (handed c.from_residual.result _ c.from_residual.ensures.1) (search (refused_does, y, rules))
 
 pub find_copy-requires : goal.find_copy-requires
-find_copy-requires c = search (admitting, rules)
+find_copy-requires c =
+    let is : c.admit.result ≡ Ok tt = c.in_ok-admit.was in
+    search (admitting, rules)
 
-pub returns-in_default-find_copy : goal.returns-in_default-find_copy
+pub returns-in_err-k : goal.returns-in_err-k
 unfolding Bytes
-returns-in_default-find_copy c = let l = c.args.book.now in
+returns-in_err-k c = let l = c.args.book.now in
     let y : Bytes l = λ i. omega (arith, c.slice_known-1.given i) in
-    search (absent_does, ranging, y, rules)
+    let is : c.admit.result ≡ Ok tt = c.in_ok-admit.was in
+    let p : Refuses c.find_copy.result (refusal_for NotTaken 0) c.from_residual-in_err-k.result = search (none_refused, rules) in
+    let n : c.find_copy.result ≡ None = p.nothing in
+    rw p.is (search (absent_does, ranging, y, rules))
 
 pub as_book-requires : goal.as_book-requires
 unfolding Bytes
 as_book-requires c = let l = c.args.book.now in
     let y : Bytes l = λ i. omega (arith, c.slice_known-1.given i) in
+    let is : c.admit.result ≡ Ok tt = c.in_ok-admit.was in
+    let q : c.find_copy.result ≡ Some c.in_ok-k.k = grind arith in
     search (load_long, y, rules)
 
 pub load-h-requires : goal.load-h-requires
 unfolding Bytes
 load-h-requires c = let l = c.args.book.now in
     let y : Bytes l = λ i. omega (arith, c.slice_known-1.given i) in
+    let is : c.admit.result ≡ Ok tt = c.in_ok-admit.was in
+    let q : c.find_copy.result ≡ Some c.in_ok-k.k = grind arith in
     (search (load_block, y, rules), rw c.as_book.ensures (search (load_few, y, rules)))
 
-pub overflow_cast-place : goal.overflow_cast-place
-overflow_cast-place c = search (place_low, rules)
+pub narrow-place-requires : goal.narrow-place-requires
+narrow-place-requires c =
+    let is : c.admit.result ≡ Ok tt = c.in_ok-admit.was in
+    search (place_low, rules)
 
-pub returns-then-not-has_place : goal.returns-then-not-has_place
+pub returns-then-not-there : goal.returns-then-not-there
 unfolding Bytes
-returns-then-not-has_place c = let l = c.args.book.now in
+returns-then-not-there c = let l = c.args.book.now in
     let y : Bytes l = λ i. omega (arith, c.slice_known-1.given i) in
-    let w = working l y _ _ _ _ c.in_default.is c.admit-verdict.ensures _ c.find_copy.ensures _ c.in-Some.is in
-    let r = ranging l _ _ _ _ c.in_default.is c.admit-verdict.ensures in
-    remove_none l _ _ _ w _ c.load-h.ensures.fits (rw c.as_book.ensures at c.load-h.ensures.is) _ _ refl r _ c.has_place.ensures (ap not c.if-not-has_place.true)
+    let is : c.admit.result ≡ Ok tt = c.in_ok-admit.was in
+    let q : c.find_copy.result ≡ Some c.in_ok-k.k = grind arith in
+    let w = working l y _ _ _ _ is c.admit.ensures _ c.find_copy.ensures _ q in
+    let r = ranging l _ _ _ _ is c.admit.ensures in
+    remove_none l _ _ _ w _ c.load-h.ensures.fits (rw c.as_book.ensures at c.load-h.ensures.is) _ _ c.narrow-place.ensures r _ c.has_place-there.ensures (ap not c.if-not-there.true)
 
 pub returns-then-h-eq1 : goal.returns-then-h-eq1
 unfolding Bytes
 returns-then-h-eq1 c = let l = c.args.book.now in
     let y : Bytes l = λ i. omega (arith, c.slice_known-1.given i) in
-    let w = working l y _ _ _ _ c.in_default.is c.admit-verdict.ensures _ c.find_copy.ensures _ c.in-Some.is in
-    let r = ranging l _ _ _ _ c.in_default.is c.admit-verdict.ensures in
-    remove_only l _ _ _ w _ c.load-h.ensures.fits (rw c.as_book.ensures at c.load-h.ensures.is) _ _ refl r _ c.has_place.ensures (ap not c.if-not-has_place.false) c.if-h-eq1.true _ c.refused-then-h-eq1.ensures
+    let is : c.admit.result ≡ Ok tt = c.in_ok-admit.was in
+    let q : c.find_copy.result ≡ Some c.in_ok-k.k = grind arith in
+    let w = working l y _ _ _ _ is c.admit.ensures _ c.find_copy.ensures _ q in
+    let r = ranging l _ _ _ _ is c.admit.ensures in
+    remove_only l _ _ _ w _ c.load-h.ensures.fits (rw c.as_book.ensures at c.load-h.ensures.is) _ _ c.narrow-place.ensures r _ c.has_place-there.ensures (ap not c.if-not-there.false) c.if-h-eq1.true _ c.into.ensures
+
+pub without_place-new-requires : goal.without_place-new-requires
+unfolding Bytes
+without_place-new-requires c = let l = c.args.book.now in
+    let y : Bytes l = λ i. omega (arith, c.slice_known-1.given i) in
+    let is : c.admit.result ≡ Ok tt = c.in_ok-admit.was in
+    let q : c.find_copy.result ≡ Some c.in_ok-k.k = grind arith in
+    let w = working l y _ _ _ _ is c.admit.ensures _ c.find_copy.ensures _ q in
+    record { fits_2 = search rules; h_value = held_up l _ _ _ w _ c.load-h.ensures.fits (rw c.as_book.ensures at c.load-h.ensures.is) }
 
 pub store_held-requires : goal.store_held-requires
 unfolding Bytes
 store_held-requires c = let l = c.args.book.now in
     let y : Bytes l = λ i. omega (arith, c.slice_known-1.given i) in
-    let w = working l y _ _ _ _ c.in_default.is c.admit-verdict.ensures _ c.find_copy.ensures _ c.in-Some.is in
+    let is : c.admit.result ≡ Ok tt = c.in_ok-admit.was in
+    let q : c.find_copy.result ≡ Some c.in_ok-k.k = grind arith in
+    let w = working l y _ _ _ _ is c.admit.ensures _ c.find_copy.ensures _ q in
     record { book_len = (w.long, w.block); fits = search rules }
 
 pub returns : goal.returns
 unfolding Bytes
 returns c = let l = c.args.book.now in
     let y : Bytes l = λ i. omega (arith, c.slice_known-1.given i) in
-    let w = working l y _ _ _ _ c.in_default.is c.admit-verdict.ensures _ c.find_copy.ensures _ c.in-Some.is in
-    let r = ranging l _ _ _ _ c.in_default.is c.admit-verdict.ensures in
-    remove_old l _ _ _ w _ c.load-h.ensures.fits (rw c.as_book.ensures at c.load-h.ensures.is) _ _ refl r _ c.has_place.ensures (ap not c.if-not-has_place.false) c.if-h-eq1.false _ c.without_place-new.ensures.is c.without_place-new.ensures.fits _ c.store_held.ensures
+    let is : c.admit.result ≡ Ok tt = c.in_ok-admit.was in
+    let q : c.find_copy.result ≡ Some c.in_ok-k.k = grind arith in
+    let w = working l y _ _ _ _ is c.admit.ensures _ c.find_copy.ensures _ q in
+    let r = ranging l _ _ _ _ is c.admit.ensures in
+    remove_old l _ _ _ w _ c.load-h.ensures.fits (rw c.as_book.ensures at c.load-h.ensures.is) _ _ c.narrow-place.ensures r _ c.has_place-there.ensures (ap not c.if-not-there.false) c.if-h-eq1.false _ c.without_place-new.ensures.is c.without_place-new.ensures.fits _ c.store_held.ensures

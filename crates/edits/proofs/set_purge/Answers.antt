@@ -4,65 +4,92 @@ use native.Mathlib.Omega.{arith}
 use mathlib.Core.Path.{◌≡◌, refl, ◌∙◌}
 use Rattle.copies.proofs.Ways.{admitting, ranging, working, load_long, load_block, load_few}
 use Rattle.edits.proofs.Ways.{tested_does, tested_absent, minute_low, purge_none, purge_some}
+use Rattle.std.specs.Prelude.{None, Some, Ok, Err}
+use Rattle.refusal.specs.Answer.{refusal_for}
+use Rattle.refusal.specs.declared.Reason.TheVariants.{NotTaken, WrongTime}
+use Rattle.refusal.proofs.Exits.{handed, Refuses, none_refused}
 use Rattle.std.proofs.Common.{rules}
 use Rattle.edits.proofs.set_purge.Goals as goal
 
-pub returns-in-Refused : goal.returns-in-Refused
+pub returns-in_err-admit : goal.returns-in_err-admit
 unfolding Bytes
-returns-in-Refused c = let l = c.args.book.now in
+returns-in_err-admit c = let l = c.args.book.now in
     let y : Bytes l = λ i. omega (arith, c.slice_known-1.given i) in
-    search (tested_does, y, rules)
+    let z : c.admit.result ≡ Err c.in_err-admit.field-0.0 = c.in_err-admit.was in
+    rw (handed c.from_residual.result _ c.from_residual.ensures.1) (search (tested_does, y, rules))
 
 pub find_copy-requires : goal.find_copy-requires
-find_copy-requires c = search (admitting, rules)
+find_copy-requires c =
+    let is : c.admit.result ≡ Ok tt = c.in_ok-admit.was in
+    search (admitting, rules)
 
-pub returns-in_default-find_copy : goal.returns-in_default-find_copy
+pub returns-in_err-k : goal.returns-in_err-k
 unfolding Bytes
-returns-in_default-find_copy c = let l = c.args.book.now in
+returns-in_err-k c = let l = c.args.book.now in
     let y : Bytes l = λ i. omega (arith, c.slice_known-1.given i) in
-    search (tested_absent, y, rules)
+    let is : c.admit.result ≡ Ok tt = c.in_ok-admit.was in
+    let p : Refuses c.find_copy.result (refusal_for NotTaken 0) c.from_residual-in_err-k.result = search (none_refused, rules) in
+    let n : c.find_copy.result ≡ None = p.nothing in
+    rw p.is (search (tested_absent, y, rules))
 
 pub as_book-requires : goal.as_book-requires
 unfolding Bytes
 as_book-requires c = let l = c.args.book.now in
     let y : Bytes l = λ i. omega (arith, c.slice_known-1.given i) in
+    let is : c.admit.result ≡ Ok tt = c.in_ok-admit.was in
+    let q : c.find_copy.result ≡ Some c.in_ok-k.k = grind arith in
     search (load_long, y, rules)
 
 pub load-h-requires : goal.load-h-requires
 unfolding Bytes
 load-h-requires c = let l = c.args.book.now in
     let y : Bytes l = λ i. omega (arith, c.slice_known-1.given i) in
+    let is : c.admit.result ≡ Ok tt = c.in_ok-admit.was in
+    let q : c.find_copy.result ≡ Some c.in_ok-k.k = grind arith in
     (search (load_block, y, rules), rw c.as_book.ensures (search (load_few, y, rules)))
 
 pub number_at-requires : goal.number_at-requires
 unfolding Bytes
 number_at-requires c = let l = c.args.book.now in
     let y : Bytes l = λ i. omega (arith, c.slice_known-1.given i) in
-    let w = working l y _ _ _ _ c.in_default.is c.admit-verdict.ensures _ c.find_copy.ensures _ c.in-Some.is in
+    let is : c.admit.result ≡ Ok tt = c.in_ok-admit.was in
+    let q : c.find_copy.result ≡ Some c.in_ok-k.k = grind arith in
+    let w = working l y _ _ _ _ is c.admit.ensures _ c.find_copy.ensures _ q in
     let h : length l ≡ book_length = w.long in omega arith
 
-pub returns-in_default-purge_of : goal.returns-in_default-purge_of
+pub returns-in_err-minute : goal.returns-in_err-minute
 unfolding Bytes
-returns-in_default-purge_of c = let l = c.args.book.now in
+returns-in_err-minute c = let l = c.args.book.now in
     let y : Bytes l = λ i. omega (arith, c.slice_known-1.given i) in
-    let w = working l y _ _ _ _ c.in_default.is c.admit-verdict.ensures _ c.find_copy.ensures _ c.in-Some.is in
-    let r = ranging l _ _ _ _ c.in_default.is c.admit-verdict.ensures in
-    purge_none l _ _ _ w _ c.load-h.ensures.fits (rw c.as_book.ensures at c.load-h.ensures.is) _ _ r c.is_time-in_range.ensures _ (c.wide-issue.ensures ∙ c.number_at.ensures) _ c.purge_of.ensures c.in_default-purge_of.is _ c.refused-in_default-purge_of.ensures
+    let is : c.admit.result ≡ Ok tt = c.in_ok-admit.was in
+    let q : c.find_copy.result ≡ Some c.in_ok-k.k = grind arith in
+    let w = working l y _ _ _ _ is c.admit.ensures _ c.find_copy.ensures _ q in
+    let r = ranging l _ _ _ _ is c.admit.ensures in
+    let p : Refuses c.purge_of.result (refusal_for WrongTime 0) c.from_residual-in_err-minute.result = search (none_refused, rules) in
+    rw p.is (purge_none l _ _ _ w _ c.load-h.ensures.fits (rw c.as_book.ensures at c.load-h.ensures.is) _ _ r c.is_time.ensures _ (c.wide-issue.ensures ∙ c.number_at.ensures) _ c.purge_of.ensures p.nothing _ refl)
 
-pub overflow_cast-new : goal.overflow_cast-new
-overflow_cast-new c = search (minute_low, rules)
+pub narrow-purge-requires : goal.narrow-purge-requires
+narrow-purge-requires c =
+    let m : c.purge_of.result ≡ Some c.in_ok-minute.minute = grind arith in
+    let q : c.find_copy.result ≡ Some c.in_ok-k.k = grind arith in
+    search (minute_low, rules)
 
 pub store_held-requires : goal.store_held-requires
 unfolding Bytes
 store_held-requires c = let l = c.args.book.now in
     let y : Bytes l = λ i. omega (arith, c.slice_known-1.given i) in
-    let w = working l y _ _ _ _ c.in_default.is c.admit-verdict.ensures _ c.find_copy.ensures _ c.in-Some.is in
+    let is : c.admit.result ≡ Ok tt = c.in_ok-admit.was in
+    let q : c.find_copy.result ≡ Some c.in_ok-k.k = grind arith in
+    let w = working l y _ _ _ _ is c.admit.ensures _ c.find_copy.ensures _ q in
     record { book_len = (w.long, w.block); fits = record { long = c.load-h.ensures.fits.long; few = c.load-h.ensures.fits.few } }
 
 pub returns : goal.returns
 unfolding Bytes
 returns c = let l = c.args.book.now in
     let y : Bytes l = λ i. omega (arith, c.slice_known-1.given i) in
-    let w = working l y _ _ _ _ c.in_default.is c.admit-verdict.ensures _ c.find_copy.ensures _ c.in-Some.is in
-    let r = ranging l _ _ _ _ c.in_default.is c.admit-verdict.ensures in
-    purge_some l _ _ _ w _ c.load-h.ensures.fits (rw c.as_book.ensures at c.load-h.ensures.is) _ _ r c.is_time-in_range.ensures _ (c.wide-issue.ensures ∙ c.number_at.ensures) _ c.purge_of.ensures _ c.in-Some-purge_of.is _ refl _ c.store_held.ensures
+    let is : c.admit.result ≡ Ok tt = c.in_ok-admit.was in
+    let q : c.find_copy.result ≡ Some c.in_ok-k.k = grind arith in
+    let w = working l y _ _ _ _ is c.admit.ensures _ c.find_copy.ensures _ q in
+    let r = ranging l _ _ _ _ is c.admit.ensures in
+    let m : c.purge_of.result ≡ Some c.in_ok-minute.minute = grind arith in
+    purge_some l _ _ _ w _ c.load-h.ensures.fits (rw c.as_book.ensures at c.load-h.ensures.is) _ _ r c.is_time.ensures _ (c.wide-issue.ensures ∙ c.number_at.ensures) _ c.purge_of.ensures _ m _ c.narrow-purge.ensures _ c.store_held.ensures

@@ -1,4 +1,4 @@
-use Rattle.forms.proofs.Forming.{form_block, form_fits, form_few, form_written, form_refused}
+use Rattle.forms.proofs.Forming.{form_block, form_fits, form_few, form_length}
 use Rattle.std.proofs.Common.{rules}
 use Rattle.forms.proofs.write_form.Goals as goal
 
@@ -6,10 +6,7 @@ pub overflow_add-i : goal.overflow_add-i
 overflow_add-i c = search (form_fits, rules)
 
 pub load-held-requires : goal.load-held-requires
-load-held-requires c = (search rules, search (form_block, rules), search (form_few, rules))
+load-held-requires c = (search (form_block, rules), rw c.as_book.ensures (search (form_few, rules)))
 
-pub returns-in-Length : goal.returns-in-Length
-returns-in-Length c = search (form_written, rules)
-
-pub returns-in-Refused : goal.returns-in-Refused
-returns-in-Refused c = search (form_refused, rules)
+pub returns : goal.returns
+returns c = let holds = rw c.as_book.ensures at c.load-held.ensures.is in search (form_length, holds, rules)

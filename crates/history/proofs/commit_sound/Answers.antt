@@ -7,28 +7,28 @@ pub returns-then-d-lt1 : goal.returns-then-d-lt1
 unfolding Bytes
 returns-then-d-lt1 c = let l = c.args.book.now in
     let y : Bytes l = c.fits-book in
-    commit_low l c.args.d c.refused.result y c.told-book c.requires (omega arith) c.refused.ensures
+    commit_low l c.args.d c.into.result y c.told-book c.requires (omega arith) c.into.ensures
 
 pub returns-then-d-gt4 : goal.returns-then-d-gt4
 unfolding Bytes
 returns-then-d-gt4 c = let l = c.args.book.now in
     let y : Bytes l = c.fits-book in
-    commit_high l c.args.d c.refused-then-d-gt4.result y c.told-book c.requires (omega arith) c.refused-then-d-gt4.ensures
+    commit_high l c.args.d c.into-then-d-gt4.result y c.told-book c.requires (omega arith) c.into-then-d-gt4.ensures
 
 pub returns-then-open-eq0 : goal.returns-then-open-eq0
 unfolding Bytes
 returns-then-open-eq0 c = let l = c.args.book.now in
     let y : Bytes l = c.fits-book in
-    commit_shut l c.args.d c.refused-then-open-eq0.result y c.told-book c.requires (omega arith) (omega arith)
-    c.from-open.result c.from-open.ensures c.if-open-eq0.true c.refused-then-open-eq0.ensures
+    commit_shut l c.args.d c.into-then-open-eq0.result y c.told-book c.requires (omega arith) (omega arith)
+    c.from-open.result c.from-open.ensures c.if-open-eq0.true c.into-then-open-eq0.ensures
 
 pub returns-then-stale-eq1 : goal.returns-then-stale-eq1
 unfolding Bytes
 returns-then-stale-eq1 c = let l = c.args.book.now in
     let y : Bytes l = c.fits-book in
-    commit_stale l c.args.d c.refused-then-stale-eq1.result y c.told-book c.requires (omega arith) (omega arith)
+    commit_stale l c.args.d c.into-then-stale-eq1.result y c.told-book c.requires (omega arith) (omega arith)
     c.from-open.result c.from-stale.result c.from-open.ensures c.if-open-eq0.false c.from-stale.ensures c.if-stale-eq1.true
-    c.refused-then-stale-eq1.ensures
+    c.into-then-stale-eq1.ensures
 
 pub changes_in-found-requires : goal.changes_in-found-requires
 changes_in-found-requires c = let l = c.args.book.now in

@@ -7,7 +7,7 @@ pub loop-start-init : goal.loop-start-init
 loop-start-init c = search (checks_start, rules)
 
 pub returns-then-end-start-gt132 : goal.returns-then-end-start-gt132
-returns-then-end-start-gt132 c = checks_long _ _ c.loop-start.invariant _ c.printable_end-end.ensures.is (omega arith) _ c.wrong.ensures
+returns-then-end-start-gt132 c = checks_long _ _ c.loop-start.invariant _ c.printable_end-end.ensures.is (omega arith) _ c.at.ensures
 
 pub loop-start-smaller : goal.loop-start-smaller
 loop-start-smaller c = search (checks_less, rules)

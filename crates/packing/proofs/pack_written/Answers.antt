@@ -1,9 +1,7 @@
-use Rattle.packing.proofs.Ways.{written_ok, written_no}
+use Rattle.packing.specs.Packing.{plain}
+use Rattle.packing.proofs.Ways.{packs_it}
 use Rattle.std.proofs.Common.{rules}
 use Rattle.packing.proofs.pack_written.Goals as goal
 
-pub returns-in-Length : goal.returns-in-Length
-returns-in-Length c = search (written_ok, rules)
-
-pub returns-in-Refused : goal.returns-in-Refused
-returns-in-Refused c = search (written_no, rules)
+pub returns : goal.returns
+returns c = packs_it plain _ c.args.written c.pack.result c.pack.ensures (λ x n q b. search rules)

@@ -1,9 +1,10 @@
-use Rattle.plugin.proofs.Readings.{read_bbb, read_no}
+use mathlib.Core.Path.{ap, ◌∙◌}
 use Rattle.std.proofs.Common.{rules}
+use Rattle.bulletin.specs.Report.{report_said}
+use Rattle.packing.specs.Packing.{pack}
+use Rattle.packing.proofs.Ways.{packs}
+use Rattle.plugin.specs.Rules.{bbb_in}
 use Rattle.plugin.proofs.hollgrimsa_bbb.Goals as goal
 
-pub returns-in-Accepted : goal.returns-in-Accepted
-returns-in-Accepted c = search (read_bbb, rules)
-
-pub returns-in-Refused : goal.returns-in-Refused
-returns-in-Refused c = search (read_no, rules)
+pub returns : goal.returns
+returns c = packs bbb_in report_said _ c.read-bulletin.result c.pack.result c.pack.ensures (λ x n q b. search rules) ∙ ap (pack bbb_in) c.read-bulletin.ensures.is.says

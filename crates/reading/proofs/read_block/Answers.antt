@@ -1,4 +1,4 @@
-use Rattle.reading.proofs.Blocks.{reads_start, reads_low, reads_less, reads_known, reads_held, reads_over, reads_twice, reads_purge, reads_wrong, bare_good, over_good}
+use Rattle.reading.proofs.Blocks.{reads_start, reads_low, reads_less, reads_known, reads_held, reads_over, reads_twice, reads_purge, reads_wrong, over_good}
 use Rattle.std.proofs.Common.{rules}
 use Rattle.reading.proofs.read_block.Goals as goal
 
@@ -29,14 +29,8 @@ found_twice-requires c = search (reads_known, rules)
 pub returns-in-Twice-clause-is : goal.returns-in-Twice-clause-is
 returns-in-Twice-clause-is c = search (reads_twice, rules)
 
-pub returns-in-Twice-clause-good : goal.returns-in-Twice-clause-good
-returns-in-Twice-clause-good c = search (over_good, rules)
-
 pub returns-in-Purge-clause-is : goal.returns-in-Purge-clause-is
 returns-in-Purge-clause-is c = search (reads_purge, rules)
 
 pub returns-in-Wrong-clause-is : goal.returns-in-Wrong-clause-is
 returns-in-Wrong-clause-is c = search (reads_wrong, rules)
-
-pub returns-in-Wrong-clause-good : goal.returns-in-Wrong-clause-good
-returns-in-Wrong-clause-good c = search (bare_good, rules)

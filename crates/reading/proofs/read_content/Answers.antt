@@ -1,30 +1,24 @@
-use Rattle.reading.proofs.Contents.{content_wrong, content_again, content_time, content_many, content_few, refused_good}
-use Rattle.std.proofs.Common.{rules}
+use Rattle.std.specs.Prelude.{Some}
+use Rattle.std.proofs.Common.{rules, ◌≡◌}
+use native.Mathlib.Omega.{arith}
+use Rattle.refusal.proofs.Exits.{handed, Refuses, none_at}
+use Rattle.reading.proofs.Contents.{content_refused, content_time, content_many, content_few}
 use Rattle.reading.proofs.read_content.Goals as goal
 
-pub returns-in_default-clause-is : goal.returns-in_default-clause-is
-returns-in_default-clause-is c = search (content_time, rules)
+pub returns-in_err-block-clause-is : goal.returns-in_err-block-clause-is
+returns-in_err-block-clause-is c = rw (handed c.from_residual.result _ c.from_residual.ensures.1) (search (content_refused, rules))
 
-pub returns-in_default-clause-good : goal.returns-in_default-clause-good
-returns-in_default-clause-good c = search (refused_good, rules)
+pub returns-in_err-purge-clause-is : goal.returns-in_err-purge-clause-is
+returns-in_err-purge-clause-is c =
+    let p : Refuses c.purge_of.result c.at.result c.from_residual-in_err-purge.result = search (none_at, rules) in
+    rw p.is (search (content_time, rules))
 
 pub returns-then-block-clause-is : goal.returns-then-block-clause-is
-returns-then-block-clause-is c = search (content_many, rules)
+returns-then-block-clause-is c =
+    let q : c.purge_of.result ≡ Some c.in_ok-purge.purge = grind arith in
+    search (content_many, rules)
 
-pub returns-then-block-clause-good : goal.returns-then-block-clause-good
-returns-then-block-clause-good c = search (refused_good, rules)
-
-pub returns-in-Wrong-clause-is : goal.returns-in-Wrong-clause-is
-returns-in-Wrong-clause-is c = search (content_wrong, rules)
-
-pub returns-in-Wrong-clause-good : goal.returns-in-Wrong-clause-good
-returns-in-Wrong-clause-good c = search (refused_good, rules)
-
-pub returns-in-Twice-clause-is : goal.returns-in-Twice-clause-is
-returns-in-Twice-clause-is c = search (content_again, rules)
-
-pub returns-in-Twice-clause-good : goal.returns-in-Twice-clause-good
-returns-in-Twice-clause-good c = search (refused_good, rules)
-
-pub returns-else-block-clause-is : goal.returns-else-block-clause-is
-returns-else-block-clause-is c = search (content_few, rules)
+pub returns-clause-is : goal.returns-clause-is
+returns-clause-is c =
+    let q : c.purge_of.result ≡ Some c.in_ok-purge.purge = grind arith in
+    search (content_few, rules)

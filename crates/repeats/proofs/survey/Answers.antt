@@ -1,4 +1,4 @@
-use Rattle.repeats.proofs.Rising.{outlined_start, rise_purge, fall_purge, quiet_purge, rise_wrong, fall_wrong, quiet_wrong}
+use Rattle.repeats.proofs.Rising.{outlined_start, rise_end, fall_end, quiet_end}
 use Rattle.repeats.proofs.Rising.{outlined_less, outlined_base, outlined_from, outlined_to, outlined_end, outlined_on}
 use Rattle.std.proofs.Common.{rules}
 use Rattle.repeats.proofs.survey.Goals as goal
@@ -24,20 +24,11 @@ loop-prefix-smaller c = search (outlined_less, rules)
 pub loop-prefix-preserved : goal.loop-prefix-preserved
 loop-prefix-preserved c = search (outlined_on, rules)
 
-pub returns-in-Purge-clause-up : goal.returns-in-Purge-clause-up
-returns-in-Purge-clause-up c = search (rise_purge, rules)
+pub returns-clause-up : goal.returns-clause-up
+returns-clause-up c = search (rise_end, rules)
 
-pub returns-in-Purge-clause-down : goal.returns-in-Purge-clause-down
-returns-in-Purge-clause-down c = search (fall_purge, rules)
+pub returns-clause-down : goal.returns-clause-down
+returns-clause-down c = search (fall_end, rules)
 
-pub returns-in-Purge-clause-quiet : goal.returns-in-Purge-clause-quiet
-returns-in-Purge-clause-quiet c = search (quiet_purge, rules)
-
-pub returns-in-Wrong-clause-up : goal.returns-in-Wrong-clause-up
-returns-in-Wrong-clause-up c = search (rise_wrong, rules)
-
-pub returns-in-Wrong-clause-down : goal.returns-in-Wrong-clause-down
-returns-in-Wrong-clause-down c = search (fall_wrong, rules)
-
-pub returns-in-Wrong-clause-quiet : goal.returns-in-Wrong-clause-quiet
-returns-in-Wrong-clause-quiet c = search (quiet_wrong, rules)
+pub returns-clause-quiet : goal.returns-clause-quiet
+returns-clause-quiet c = search (quiet_end, rules)

@@ -1,21 +1,18 @@
-use Rattle.segments.proofs.Seeking.{seeks_start, seeks_none, seeks_here, seeks_in, seeks_on, seeks_less}
+use Rattle.segments.proofs.Seeking.{seeks_none, seeks_here, seeks_in, seeks_on, seeks_less}
 use Rattle.std.proofs.Common.{rules}
 use Rattle.segments.proofs.first.Goals as goal
 
-pub search-init : goal.search-init
-search-init c = search (seeks_start, rules)
+pub loop-l-smaller : goal.loop-l-smaller
+loop-l-smaller c = seeks_less _ _ _ _ c.loop-l.invariant _ c.find_line.ensures _ c.in_ok-l.was _ c.part.ensures _ c.is_sought.ensures
 
-pub search-smaller : goal.search-smaller
-search-smaller c = search (seeks_less, rules)
+pub loop-l-preserved : goal.loop-l-preserved
+loop-l-preserved c = seeks_on _ _ _ _ c.loop-l.invariant _ c.find_line.ensures _ c.in_ok-l.was _ c.part.ensures _ c.is_sought.ensures c.if-is_sought.false
 
-pub search-preserved : goal.search-preserved
-search-preserved c = search (seeks_on, rules)
-
-pub returns-in_default-clause-is : goal.returns-in_default-clause-is
-returns-in_default-clause-is c = search (seeks_none, rules)
+pub returns-in_err-l-clause-is : goal.returns-in_err-l-clause-is
+returns-in_err-l-clause-is c = search (seeks_none, rules)
 
 pub returns-then-is_sought-clause-is : goal.returns-then-is_sought-clause-is
-returns-then-is_sought-clause-is c = search (seeks_here, rules)
+returns-then-is_sought-clause-is c = seeks_here _ _ _ _ c.loop-l.invariant _ c.find_line.ensures _ c.in_ok-l.was _ c.part.ensures _ c.is_sought.ensures c.if-is_sought.true
 
 pub returns-then-is_sought-clause-inside : goal.returns-then-is_sought-clause-inside
-returns-then-is_sought-clause-inside c = search (seeks_in, rules)
+returns-then-is_sought-clause-inside c = seeks_in _ _ _ _ c.loop-l.invariant _ c.find_line.ensures _ c.in_ok-l.was _ c.part.ensures _ c.is_sought.ensures

@@ -1,28 +1,18 @@
-use Rattle.segments.proofs.Seeking.{seeks_start, seeks_none}
-use Rattle.segments.proofs.Opening.{fitting_start, fitting_on, opening_less, opening_on, opening_here, opening_in}
+use Rattle.segments.proofs.Seeking.{seeks_none, seeks_here, seeks_in, seeks_on, seeks_less}
 use Rattle.std.proofs.Common.{rules}
 use Rattle.segments.proofs.first_opening.Goals as goal
 
-pub search-init : goal.search-init
-search-init c = search (seeks_start, rules)
+pub loop-l-smaller : goal.loop-l-smaller
+loop-l-smaller c = seeks_less _ _ _ _ c.loop-l.invariant _ c.find_line.ensures _ c.in_ok-l.was _ c.part.ensures _ c.opens_block.ensures
 
-pub loop-line-init : goal.loop-line-init
-loop-line-init c = search (fitting_start, rules)
+pub loop-l-preserved : goal.loop-l-preserved
+loop-l-preserved c = seeks_on _ _ _ _ c.loop-l.invariant _ c.find_line.ensures _ c.in_ok-l.was _ c.part.ensures _ c.opens_block.ensures c.if-opens_block.false
 
-pub loop-line-preserved : goal.loop-line-preserved
-loop-line-preserved c = search (fitting_on, rules)
+pub returns-in_err-l-clause-is : goal.returns-in_err-l-clause-is
+returns-in_err-l-clause-is c = search (seeks_none, rules)
 
-pub search-smaller : goal.search-smaller
-search-smaller c = search (opening_less, rules)
+pub returns-then-opens_block-clause-is : goal.returns-then-opens_block-clause-is
+returns-then-opens_block-clause-is c = seeks_here _ _ _ _ c.loop-l.invariant _ c.find_line.ensures _ c.in_ok-l.was _ c.part.ensures _ c.opens_block.ensures c.if-opens_block.true
 
-pub search-preserved : goal.search-preserved
-search-preserved c = search (opening_on, rules)
-
-pub returns-in_default-clause-is : goal.returns-in_default-clause-is
-returns-in_default-clause-is c = search (seeks_none, rules)
-
-pub returns-then-k-eq7-clause-is : goal.returns-then-k-eq7-clause-is
-returns-then-k-eq7-clause-is c = search (opening_here, rules)
-
-pub returns-then-k-eq7-clause-inside : goal.returns-then-k-eq7-clause-inside
-returns-then-k-eq7-clause-inside c = search (opening_in, rules)
+pub returns-then-opens_block-clause-inside : goal.returns-then-opens_block-clause-inside
+returns-then-opens_block-clause-inside c = seeks_in _ _ _ _ c.loop-l.invariant _ c.find_line.ensures _ c.in_ok-l.was _ c.part.ensures _ c.opens_block.ensures

@@ -1,12 +1,12 @@
-use Rattle.segments.proofs.Keeping.{handing_start, handing_at, handing_fits, handing_end, handing_few, handing_on, handing_done, handing_length}
+use Rattle.segments.proofs.Keeping.{handing_start, handing_at, handing_fits, handing_end, handing_few, handing_on}
 use Rattle.std.proofs.Common.{rules}
 use Rattle.segments.proofs.hand_on.Goals as goal
 
 pub loop-i-init : goal.loop-i-init
 loop-i-init c = search (handing_start, rules)
 
-pub overflow_add-to : goal.overflow_add-to
-overflow_add-to c = search (handing_fits, rules)
+pub overflow_add-from : goal.overflow_add-from
+overflow_add-from c = search (handing_fits, rules)
 
 pub slice_bounds-keep-end : goal.slice_bounds-keep-end
 slice_bounds-keep-end c = search (handing_end, rules)
@@ -16,9 +16,3 @@ keep-requires c = (search (handing_at, rules), search (handing_few, rules))
 
 pub loop-i-preserved : goal.loop-i-preserved
 loop-i-preserved c = search (handing_on, rules)
-
-pub shape_of-kept : goal.shape_of-kept
-shape_of-kept c = search (handing_length, rules)
-
-pub returns : goal.returns
-returns c = search (handing_done, rules)

@@ -21,5 +21,5 @@ pub write_sound-requires-clause-sound_book : goal.write_sound-requires-clause-so
 unfolding Bytes
 write_sound-requires-clause-sound_book c = record { long = search rules; sound = cc; bytes = λ i. omega (arith, c.shared_slice_known-2-1.given i) }
 
-pub returns : goal.returns
-returns c = search (edited_broken, is_length_lem, rules)
+pub returns-then-not-is_sound : goal.returns-then-not-is_sound
+returns-then-not-is_sound c = search (edited_broken, is_length_lem, rules)
