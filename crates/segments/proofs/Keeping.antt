@@ -4,19 +4,19 @@ use native.Mathlib.Nat.{add-zero, zero-add}
 use native.Mathlib.Numerals.{add-one}
 use native.Mathlib.Omega.{arith}
 use mathlib.Core.Path.{◌≡◌, refl, sym, ap, ◌∙◌}
-use mathlib.Core.List.{List, [], ◌∷◌, ◌++◌, map}
+use mathlib.Core.List.{List, [], ◌∷◌, ◌++◌, map, append_assoc}
 use Rattle.std.specs.Prelude.{Some}
 use lib.ListN.{length, take, drop, set, get_or, length-append, length-drop}
 use Rattle.std.specs.Prelude.{slice_get}
-use lib.Seq.{sets, length-sets, sets-eq, take-length, take-suc, length-take-le, take-set-le, take_at, drop_at}
+use lib.Seq.{drop-drop, sets, length-sets, sets-eq, take-suc, length-take-le, take-set-le, take_at, drop_at}
 use lib.Dec.{leb}
+use borrow.Rule.Slice.PartMut.{put_mid}
 use mir.Syntax.{w64}
 use mir.Val.{Fits}
 use borrow.Author.Tests.{le-leb, lt-leb}
 use Rattle.laws.proofs.Tests.{either_way, apart}
 use Rattle.laws.proofs.Lists.{drop_take, all_get}
 use Rattle.laws.proofs.Lookups.{some_same}
-use Rattle.laws.proofs.Stores.{Copied, copied_done}
 use Rattle.std.specs.Prelude.{Result, Ok}
 use Rattle.refusal.specs.Answer.{answer_by}
 use Rattle.refusal.specs.declared.Refusal.{Refusal}
@@ -39,9 +39,11 @@ pub keep_none : (at : ℕ) (ps ks : List ℕ) → length ks < at + capacity → 
 unfolding keep_at
 keep_none at ps ks h = rw (lt-leb (at + capacity) (length ks) h)
 
-pub keep_all : (at : ℕ) (ps ks d : List ℕ) (i : ℕ) → at + capacity ≤ length ks → Copied ks d at ps (length ps) i → length ps ≤ i → d ≡ keep_at at ps ks
+pub keep_all : (at : ℕ) (ps ks d : List ℕ) → at + capacity ≤ length ks → length ps ≤ capacity → d ≡ ps → put_mid at (at + length ps - at) ks d ≡ keep_at at ps ks
 unfolding keep_at
-keep_all at ps ks d i h v n = rw (le-leb (at + capacity) (length ks) h) (copied_done ks d at ps (length ps) i v n ∙ rw (take-length ps))
+keep_all at ps ks d h few e =
+    let n : at + length ps - at ≡ length ps = omega arith in
+    rw (n, le-leb (at + capacity) (length ks) h, e, drop-drop (length ps) at ks) (sym (sets-eq ps ks at (omega arith) ∙ append_assoc (take at ks) ps (drop (at + length ps) ks)))
 
 -- a segment's places are few enough
 pub keep_few : (t : Places) → Good t → length (take (t.count - 0) t.held) ≤ capacity

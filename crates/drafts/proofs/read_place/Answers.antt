@@ -53,7 +53,8 @@ returns-then-h-i c = let l = c.args.book.now in
     let y : Bytes l = λ i. omega (arith, c.shared_slice_known-1.given i) in
     let is : c.admit.result ≡ Ok tt = c.in_ok-admit.was in
     let q : c.find_copy.result ≡ Some c.in_ok-k.k = grind arith in
-    search (reads_past, working, y, rules)
+    let holds = rw c.as_book.ensures at c.load-h.ensures.is in
+    search (reads_past, working, y, holds, rules)
 
 pub returns : goal.returns
 unfolding Bytes

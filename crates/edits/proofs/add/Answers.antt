@@ -1,5 +1,5 @@
 use native.Mathlib.Omega.{arith}
-use mathlib.Core.Path.{◌≡◌, sym, ◌∙◌}
+use mathlib.Core.Path.{◌≡◌, sym, ◌∙◌, refl}
 use Rattle.blocks.specs.Block.{Bytes}
 use Rattle.copies.proofs.Ways.{refused_does, admitting, ranging, working, load_long, load_block, load_few, absent_does}
 use Rattle.edits.proofs.Ways.{place_low, held_up, add_old, add_full, add_new}
@@ -47,20 +47,20 @@ load-h-requires c = let l = c.args.book.now in
     let q : c.find_copy.result ≡ Some c.in_ok-k.k = grind arith in
     (search (load_block, y, rules), rw c.as_book.ensures (search (load_few, y, rules)))
 
-pub narrow-place-requires : goal.narrow-place-requires
-narrow-place-requires c =
+pub overflow_cast-place : goal.overflow_cast-place
+overflow_cast-place c =
     let is : c.admit.result ≡ Ok tt = c.in_ok-admit.was in
     search (place_low, rules)
 
-pub returns-then-there : goal.returns-then-there
+pub returns-then-has_place : goal.returns-then-has_place
 unfolding Bytes
-returns-then-there c = let l = c.args.book.now in
+returns-then-has_place c = let l = c.args.book.now in
     let y : Bytes l = λ i. omega (arith, c.slice_known-1.given i) in
     let is : c.admit.result ≡ Ok tt = c.in_ok-admit.was in
     let q : c.find_copy.result ≡ Some c.in_ok-k.k = grind arith in
     let w = working l y _ _ _ _ is c.admit.ensures _ c.find_copy.ensures _ q in
     let r = ranging l _ _ _ _ is c.admit.ensures in
-    add_old l _ _ _ w _ c.load-h.ensures.fits (rw c.as_book.ensures at c.load-h.ensures.is) _ _ c.narrow-place.ensures r _ c.has_place-there.ensures c.if-there.true
+    add_old l _ _ _ w _ c.load-h.ensures.fits (rw c.as_book.ensures at c.load-h.ensures.is) _ _ refl r _ c.has_place.ensures c.if-has_place.true
 
 pub returns-then-h-ge120 : goal.returns-then-h-ge120
 unfolding Bytes
@@ -70,7 +70,7 @@ returns-then-h-ge120 c = let l = c.args.book.now in
     let q : c.find_copy.result ≡ Some c.in_ok-k.k = grind arith in
     let w = working l y _ _ _ _ is c.admit.ensures _ c.find_copy.ensures _ q in
     let r = ranging l _ _ _ _ is c.admit.ensures in
-    add_full l _ _ _ w _ c.load-h.ensures.fits (rw c.as_book.ensures at c.load-h.ensures.is) _ _ c.narrow-place.ensures r _ c.has_place-there.ensures c.if-there.false c.if-h-ge120.true _ c.into.ensures
+    add_full l _ _ _ w _ c.load-h.ensures.fits (rw c.as_book.ensures at c.load-h.ensures.is) _ _ refl r _ c.has_place.ensures c.if-has_place.false c.if-h-ge120.true _ c.into.ensures
 
 pub with_place-new-requires : goal.with_place-new-requires
 unfolding Bytes
@@ -79,7 +79,7 @@ with_place-new-requires c = let l = c.args.book.now in
     let is : c.admit.result ≡ Ok tt = c.in_ok-admit.was in
     let q : c.find_copy.result ≡ Some c.in_ok-k.k = grind arith in
     let w = working l y _ _ _ _ is c.admit.ensures _ c.find_copy.ensures _ q in
-    record { fits_2 = search rules; count_lt_capacity = search rules; h_value = held_up l _ _ _ w _ c.load-h.ensures.fits (rw c.as_book.ensures at c.load-h.ensures.is); h_value_2 = sym c.has_place-there.ensures ∙ c.if-there.false }
+    record { sound = search rules; room = search rules; ascending = held_up l _ _ _ w _ c.load-h.ensures.fits (rw c.as_book.ensures at c.load-h.ensures.is); absent = sym c.has_place.ensures ∙ c.if-has_place.false }
 
 pub store_held-requires : goal.store_held-requires
 unfolding Bytes
@@ -98,4 +98,4 @@ returns c = let l = c.args.book.now in
     let q : c.find_copy.result ≡ Some c.in_ok-k.k = grind arith in
     let w = working l y _ _ _ _ is c.admit.ensures _ c.find_copy.ensures _ q in
     let r = ranging l _ _ _ _ is c.admit.ensures in
-    add_new l _ _ _ w _ c.load-h.ensures.fits (rw c.as_book.ensures at c.load-h.ensures.is) _ _ c.narrow-place.ensures r _ c.has_place-there.ensures c.if-there.false c.if-h-ge120.false _ c.with_place-new.ensures.is c.with_place-new.ensures.fits _ c.store_held.ensures
+    add_new l _ _ _ w _ c.load-h.ensures.fits (rw c.as_book.ensures at c.load-h.ensures.is) _ _ refl r _ c.has_place.ensures c.if-has_place.false c.if-h-ge120.false _ c.with_place-new.ensures.is c.with_place-new.ensures.fits _ c.store_held.ensures

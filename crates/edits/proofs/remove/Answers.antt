@@ -1,4 +1,4 @@
-use mathlib.Core.Path.{◌≡◌, ap}
+use mathlib.Core.Path.{◌≡◌, ap, refl}
 use mathlib.Core.Bool.{not}
 use native.Mathlib.Omega.{arith}
 use Rattle.blocks.specs.Block.{Bytes}
@@ -48,20 +48,20 @@ load-h-requires c = let l = c.args.book.now in
     let q : c.find_copy.result ≡ Some c.in_ok-k.k = grind arith in
     (search (load_block, y, rules), rw c.as_book.ensures (search (load_few, y, rules)))
 
-pub narrow-place-requires : goal.narrow-place-requires
-narrow-place-requires c =
+pub overflow_cast-place : goal.overflow_cast-place
+overflow_cast-place c =
     let is : c.admit.result ≡ Ok tt = c.in_ok-admit.was in
     search (place_low, rules)
 
-pub returns-then-not-there : goal.returns-then-not-there
+pub returns-then-not-has_place : goal.returns-then-not-has_place
 unfolding Bytes
-returns-then-not-there c = let l = c.args.book.now in
+returns-then-not-has_place c = let l = c.args.book.now in
     let y : Bytes l = λ i. omega (arith, c.slice_known-1.given i) in
     let is : c.admit.result ≡ Ok tt = c.in_ok-admit.was in
     let q : c.find_copy.result ≡ Some c.in_ok-k.k = grind arith in
     let w = working l y _ _ _ _ is c.admit.ensures _ c.find_copy.ensures _ q in
     let r = ranging l _ _ _ _ is c.admit.ensures in
-    remove_none l _ _ _ w _ c.load-h.ensures.fits (rw c.as_book.ensures at c.load-h.ensures.is) _ _ c.narrow-place.ensures r _ c.has_place-there.ensures (ap not c.if-not-there.true)
+    remove_none l _ _ _ w _ c.load-h.ensures.fits (rw c.as_book.ensures at c.load-h.ensures.is) _ _ refl r _ c.has_place.ensures (ap not c.if-not-has_place.true)
 
 pub returns-then-h-eq1 : goal.returns-then-h-eq1
 unfolding Bytes
@@ -71,16 +71,7 @@ returns-then-h-eq1 c = let l = c.args.book.now in
     let q : c.find_copy.result ≡ Some c.in_ok-k.k = grind arith in
     let w = working l y _ _ _ _ is c.admit.ensures _ c.find_copy.ensures _ q in
     let r = ranging l _ _ _ _ is c.admit.ensures in
-    remove_only l _ _ _ w _ c.load-h.ensures.fits (rw c.as_book.ensures at c.load-h.ensures.is) _ _ c.narrow-place.ensures r _ c.has_place-there.ensures (ap not c.if-not-there.false) c.if-h-eq1.true _ c.into.ensures
-
-pub without_place-new-requires : goal.without_place-new-requires
-unfolding Bytes
-without_place-new-requires c = let l = c.args.book.now in
-    let y : Bytes l = λ i. omega (arith, c.slice_known-1.given i) in
-    let is : c.admit.result ≡ Ok tt = c.in_ok-admit.was in
-    let q : c.find_copy.result ≡ Some c.in_ok-k.k = grind arith in
-    let w = working l y _ _ _ _ is c.admit.ensures _ c.find_copy.ensures _ q in
-    record { fits_2 = search rules; h_value = held_up l _ _ _ w _ c.load-h.ensures.fits (rw c.as_book.ensures at c.load-h.ensures.is) }
+    remove_only l _ _ _ w _ c.load-h.ensures.fits (rw c.as_book.ensures at c.load-h.ensures.is) _ _ refl r _ c.has_place.ensures (ap not c.if-not-has_place.false) c.if-h-eq1.true _ c.into.ensures
 
 pub store_held-requires : goal.store_held-requires
 unfolding Bytes
@@ -99,4 +90,4 @@ returns c = let l = c.args.book.now in
     let q : c.find_copy.result ≡ Some c.in_ok-k.k = grind arith in
     let w = working l y _ _ _ _ is c.admit.ensures _ c.find_copy.ensures _ q in
     let r = ranging l _ _ _ _ is c.admit.ensures in
-    remove_old l _ _ _ w _ c.load-h.ensures.fits (rw c.as_book.ensures at c.load-h.ensures.is) _ _ c.narrow-place.ensures r _ c.has_place-there.ensures (ap not c.if-not-there.false) c.if-h-eq1.false _ c.without_place-new.ensures.is c.without_place-new.ensures.fits _ c.store_held.ensures
+    remove_old l _ _ _ w _ c.load-h.ensures.fits (rw c.as_book.ensures at c.load-h.ensures.is) _ _ refl r _ c.has_place.ensures (ap not c.if-not-has_place.false) c.if-h-eq1.false _ c.without_place-new.ensures.is c.without_place-new.ensures.fits _ c.store_held.ensures

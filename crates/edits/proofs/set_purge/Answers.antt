@@ -48,15 +48,6 @@ load-h-requires c = let l = c.args.book.now in
     let q : c.find_copy.result ≡ Some c.in_ok-k.k = grind arith in
     (search (load_block, y, rules), rw c.as_book.ensures (search (load_few, y, rules)))
 
-pub number_at-requires : goal.number_at-requires
-unfolding Bytes
-number_at-requires c = let l = c.args.book.now in
-    let y : Bytes l = λ i. omega (arith, c.slice_known-1.given i) in
-    let is : c.admit.result ≡ Ok tt = c.in_ok-admit.was in
-    let q : c.find_copy.result ≡ Some c.in_ok-k.k = grind arith in
-    let w = working l y _ _ _ _ is c.admit.ensures _ c.find_copy.ensures _ q in
-    let h : length l ≡ book_length = w.long in omega arith
-
 pub returns-in_err-minute : goal.returns-in_err-minute
 unfolding Bytes
 returns-in_err-minute c = let l = c.args.book.now in
@@ -68,10 +59,19 @@ returns-in_err-minute c = let l = c.args.book.now in
     let p : Refuses c.purge_of.result (refusal_for WrongTime 0) c.from_residual-in_err-minute.result = search (none_refused, rules) in
     rw p.is (purge_none l _ _ _ w _ c.load-h.ensures.fits (rw c.as_book.ensures at c.load-h.ensures.is) _ _ r c.is_time.ensures _ (c.wide-issue.ensures ∙ c.number_at.ensures) _ c.purge_of.ensures p.nothing _ refl)
 
-pub narrow-purge-requires : goal.narrow-purge-requires
-narrow-purge-requires c =
-    let m : c.purge_of.result ≡ Some c.in_ok-minute.minute = grind arith in
+pub number_at-requires : goal.number_at-requires
+unfolding Bytes
+number_at-requires c = let l = c.args.book.now in
+    let y : Bytes l = λ i. omega (arith, c.slice_known-1.given i) in
+    let is : c.admit.result ≡ Ok tt = c.in_ok-admit.was in
     let q : c.find_copy.result ≡ Some c.in_ok-k.k = grind arith in
+    let w = working l y _ _ _ _ is c.admit.ensures _ c.find_copy.ensures _ q in
+    let h : length l ≡ book_length = w.long in omega arith
+
+pub overflow_cast-new : goal.overflow_cast-new
+overflow_cast-new c =
+    let is : c.admit.result ≡ Ok tt = c.in_ok-admit.was in
+    let given : c.purge_of.result ≡ Some c.in_ok-minute.minute = grind arith in
     search (minute_low, rules)
 
 pub store_held-requires : goal.store_held-requires
@@ -89,7 +89,7 @@ returns c = let l = c.args.book.now in
     let y : Bytes l = λ i. omega (arith, c.slice_known-1.given i) in
     let is : c.admit.result ≡ Ok tt = c.in_ok-admit.was in
     let q : c.find_copy.result ≡ Some c.in_ok-k.k = grind arith in
+    let given : c.purge_of.result ≡ Some c.in_ok-minute.minute = grind arith in
     let w = working l y _ _ _ _ is c.admit.ensures _ c.find_copy.ensures _ q in
     let r = ranging l _ _ _ _ is c.admit.ensures in
-    let m : c.purge_of.result ≡ Some c.in_ok-minute.minute = grind arith in
-    purge_some l _ _ _ w _ c.load-h.ensures.fits (rw c.as_book.ensures at c.load-h.ensures.is) _ _ r c.is_time.ensures _ (c.wide-issue.ensures ∙ c.number_at.ensures) _ c.purge_of.ensures _ m _ c.narrow-purge.ensures _ c.store_held.ensures
+    purge_some l _ _ _ w _ c.load-h.ensures.fits (rw c.as_book.ensures at c.load-h.ensures.is) _ _ r c.is_time.ensures _ (c.wide-issue.ensures ∙ c.number_at.ensures) _ c.purge_of.ensures _ given _ refl _ c.store_held.ensures

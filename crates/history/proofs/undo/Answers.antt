@@ -26,7 +26,7 @@ unfolding Bytes
 returns-then-n-eq0 c = let l = c.in-Some.book.now in
     let same = c.in-Some.ensures.cases.same in
     let y : Bytes c.args.book.now = λ i. omega (arith, c.slice_known-1.given i) in
-    subst (λ (z : List ℕ). Does z l undo c.into-then-n-eq0.result) same
+    subst (λ (z : List ℕ). Does z l undo (Err c.into-then-n-eq0.result)) same
     (undo_none l _ (subst Bytes (sym same) y) (search rules) (sym c.is_sound.ensures ∙ c.if-not-is_sound.false)
     (sym c.from-n.ensures ∙ c.if-n-eq0.true) (ap refusal_answer c.into-then-n-eq0.ensures))
 
