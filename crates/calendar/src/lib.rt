@@ -7,7 +7,6 @@ ghost use Rattle.calendar.specs.Purge.{purge_of};
 ghost use Rattle.calendar.specs.Window.{earliest, within, window_of};
 ghost use Rattle.calendar.specs.Serving.{Time};
 
-
 // DDHHMM.
 #[derive(Clone, Copy)]
 pub struct Stamp {

@@ -2,3 +2,4 @@ pub mod Rests
 pub mod Blocks
 pub mod Contents
 pub mod Placing
+pub mod OneToOne

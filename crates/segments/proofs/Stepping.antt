@@ -234,7 +234,7 @@ module _ (s : List ℕ) (issue from : ℕ) (ks₀ ks : List ℕ) (held : List Se
     kept_end q = k ∙ ap (λ (x : Result (Option Segment) Refusal). kept_by s issue (120 * count) x ks) q ∙ v.kept
 
     pub kept_some : (f : Refusal) → r ≡ Err f → KeptSome s issue ks₀ d
-    kept_some f q = record { segments = take count held; kept = k ∙ ap (λ (x : Result (Option Segment) Refusal). kept_by s issue (120 * count) x ks) q ∙ v.kept }
+    kept_some f q = record { segments = record { held = held; count = count }; whole = listing_segments; sized = listing_sized; kept = k ∙ ap (λ (x : Result (Option Segment) Refusal). kept_by s issue (120 * count) x ks) q ∙ v.kept }
 
   module _ (r : Result (Option Segment) Refusal) (e : Stepped s issue (8 - count) at r) where
     listed : seen_from 8 s issue from ≡ seen_before (take count held) (then_seen s issue (8 - count - 1) r)

@@ -5,7 +5,9 @@ use Rattle.refusal.specs.declared.Refusal.{Refusal}
 use Rattle.codes.specs.Places.{capacity}
 use Rattle.codes.specs.Block.{Content, content_at}
 use Rattle.segments.specs.KeptAt.{keep_at, keep_each}
+use Rattle.segments.specs.Seen.{segments_for, segments_held, Sized}
 use Rattle.segments.specs.declared.Segment.{Segment}
+use Rattle.segments.specs.declared.Segments.{Segments}
 
 abbrev pub places_said : Answer Content → List ℕ
 places_said (ok c) = c.places
@@ -30,10 +32,12 @@ kept_by text issue at (Err r) ks = ks
 abbrev pub kept_from : List ℕ → ℕ → ℕ → List Segment → List ℕ → List ℕ
 kept_from text issue i gs ks = keep_each (places_at text issue) i gs ks
 
--- those of some segments
+-- those of some segments, of which there are not too many
 pub record KeptSome (text : List ℕ) (issue : ℕ) (before after : List ℕ) : Type 0 where
-  pub segments : List Segment
-  pub kept : after ≡ kept_from text issue 0 segments before
+  pub segments : Segments
+  pub whole : segments ≡ segments_for (segments_held segments)
+  pub sized : Sized segments
+  pub kept : after ≡ kept_from text issue 0 (segments_held segments) before
 
 -- the places that were kept for segment i
 abbrev pub places_from : List ℕ → ℕ → Segment → List ℕ
