@@ -8,9 +8,7 @@ use mathlib.Core.Bool.{true}
 use Rattle.std.specs.Prelude.{Option, None, Some, Result, Ok, Err}
 use mathlib.Core.List.{List, [], ◌∷◌, ◌++◌, map, append_assoc, append-nil, map-append}
 use lib.ListN.{length, take, drop, get_or, set, length-append, length-drop, length-map, length-set, drop_of_length-le, get_or-map}
-use lib.Seq.{sets, sets-eq, get_or-take, take_all, take-suc, take-suc-set, length-sets, length-take-le, take-append_seam, drop-drop}
-use mir.Syntax.{w64}
-use mir.Val.{Fits}
+use lib.Seq.{sets, sets-eq, take_all, take-suc, take-suc-set, length-sets, length-take-le, take-append_seam, drop-drop}
 use borrow.Author.Tests.{le-leb}
 use borrow.Rule.Slice.PartMut.{put_mid}
 use Rattle.laws.proofs.Lookups.{get_some, some_same}
@@ -39,11 +37,12 @@ use Rattle.blocks.specs.declared.Held.{Held}
 use Rattle.layout.specs.Layout.{book_of}
 use Rattle.layout.proofs.Parts.{sound_parts}
 use Rattle.layout.proofs.Said.{segment_of_lem, segments_length}
-use Rattle.segments.specs.Seen.{Sized}
+use Rattle.segments.specs.Seen.{segments_held, Sized}
 use Rattle.segments.specs.declared.Segment.{Segment}
 use Rattle.segments.specs.declared.Segments.{Segments}
 use Rattle.making.proofs.Writing.{segment_block_lem, rule_block, write_few}
 use Rattle.forms.specs.Edited.{written_forms}
+use Rattle.forms.proofs.Keeping.{held_many}
 use Rattle.forms.specs.Forms.{SoundBook, RoomFor, Formed, ends_of, Laid}
 
 -- ---- a block that is given with one line end is given with each
@@ -65,9 +64,6 @@ module _ (l : List ℕ) (b : SoundBook l) (i : ℕ) (low : i < get_or l 4 0) whe
   pub form_block : i + 1 < 49
   form_block = omega (arith, (sound_parts l b.sound).eight)
 
-  pub form_fits : Fits w64 (i + 1)
-  form_fits = omega (arith, form_block)
-
   pub form_few : get_or (block_of (i + 1) l) 4 0 ≤ capacity
   form_few = write_few l [] (i + 1) b.long b.sound (get_or l 4 0) refl (omega arith) (omega arith)
 
@@ -85,15 +81,13 @@ module _ (l : List ℕ) (b : SoundBook l) (i : ℕ) (low : i < get_or l 4 0) whe
     unfolding fitting
     fits = rw (le-leb (length made.block) (length before) (omega (arith, short)))
 
-    rule : write_rule end (length before) (take (q.count - 0) q.places) q.purge ≡ ok made.block
+    rule : write_rule end (length before) (take q.count q.places) q.purge ≡ ok made.block
     rule =
-        let c : q.count - 0 ≡ q.count = omega arith in
-        ap (λ (k : ℕ). write_rule end (length before) (take k q.places) q.purge) c
-        ∙ ap (λ (x : Content). write_rule end (length before) x.places x.purge) (e ∙ ap (λ (k : ℕ). content_of (block_of k l)) (add-one i))
+        ap (λ (x : Content). write_rule end (length before) x.places x.purge) (e ∙ ap (λ (k : ℕ). content_of (block_of k l)) (add-one i))
         ∙ rule_block end (length before) content made.block made.given
         ∙ fits
 
-    module _ (x : Result ℕ Refusal) (w : WritesEnded end before after (take (q.count - 0) q.places) q.purge x) where
+    module _ (x : Result ℕ Refusal) (w : WritesEnded end before after (take q.count q.places) q.purge x) where
       form_written : (r : ℕ) → x ≡ Ok r → Formed end l i before after r
       form_written r k =
           let s : r ≡ length made.block = ok_one r (length made.block) (ap answer_of (sym k) ∙ w.answer ∙ ap length_of rule) in
@@ -170,29 +164,28 @@ get_again (x ∷ l) zero z = refl
 get_again (x ∷ l) (suc i) z = get_again l i z
 
 -- ---- the loop: the first i forms stand at the front
-pub record Forming (held : List Segment) (l forms₀ : List ℕ) (n : ℕ) (each : List ℕ) (total i : ℕ) (forms : List ℕ) : Type 0 where
-  pub sized : Sized (record { held = held; count = n })
-  pub left : i ≤ n
-  pub many : n ≡ get_or l 4 0
-  pub eight : n ≤ 8
+pub record Forming (gs : List Segment) (l forms₀ : List ℕ) (each : List ℕ) (total i : ℕ) (forms : List ℕ) : Type 0 where
+  pub left : i ≤ length gs
+  pub many : length gs ≡ get_or l 4 0
+  pub eight : length gs ≤ 8
   pub blocks : List (List ℕ)
-  pub given : written_forms (take i (ends_of (take n held))) (take i (book_of l).segments) ≡ ok blocks
+  pub given : written_forms (take i (ends_of gs)) (take i (book_of l).segments) ≡ ok blocks
   pub count : length blocks ≡ i
   pub bytes : forms ≡ sets forms₀ 0 (in_order blocks)
   pub sizes : take i each ≡ map (λ (b : List ℕ). length b) blocks
   pub is : total ≡ length (in_order blocks)
   pub most : total ≤ written_block_most * i
-  pub room : RoomFor n forms₀
+  pub room : RoomFor (length gs) forms₀
   pub wide : length each ≡ 8
 
 pub forming_start : (gs : Segments) → Sized gs → (l forms : List ℕ) (each : List ℕ) → SoundBook l → gs.count ≡ get_or l 4 0 → RoomFor gs.count forms → length each ≡ 8
-    → Forming gs.held l forms gs.count each 0 0 forms
+    → Forming (segments_held gs) l forms each 0 0 forms
 unfolding in_order written_forms
 forming_start gs z l forms each s m r w =
+    let n : length (segments_held gs) ≡ gs.count = held_many gs z in
     record {
-      sized = z;
       left = omega arith;
-      many = m;
+      many = n ∙ m;
       eight = omega (arith, (sound_parts l s.sound).eight);
       blocks = [];
       given = refl;
@@ -201,7 +194,7 @@ forming_start gs z l forms each s m r w =
       sizes = refl;
       is = refl;
       most = omega arith;
-      room = r;
+      room = rw n r;
       wide = w;
     }
 
@@ -217,49 +210,35 @@ behind_set at l form h =
     ∙ sym (append_assoc (take at l) form (drop (at + length form) l))
     ∙ sym (sets-eq form l at h)
 
-module _ (held : List Segment) (l forms₀ : List ℕ) (n : ℕ) (each : List ℕ) (total i : ℕ) (forms : List ℕ) (v : Forming held l forms₀ n each total i forms) where
+module _ (gs : List Segment) (l forms₀ : List ℕ) (each : List ℕ) (total i : ℕ) (forms : List ℕ) (v : Forming gs l forms₀ each total i forms) where
   abbrev es : List End
-  es = ends_of (take n held)
+  es = ends_of gs
 
-  ends_long : length es ≡ n
-  ends_long = length-map (take n held) (λ (g : Segment). g.ended) ∙ length-take-le n held (omega (arith, v.sized.long, v.sized.few))
+  ends_long : length es ≡ length gs
+  ends_long = length-map gs (λ (g : Segment). g.ended)
 
-  pub forming_same : length forms ≡ length forms₀
+  forming_same : length forms ≡ length forms₀
   forming_same = ap (λ (x : List ℕ). length x) v.bytes ∙ length-sets forms₀ 0 (in_order v.blocks)
 
   -- there is room for the form of segment i
-  forming_long : i < n → total + written_block_most ≤ length forms
+  forming_long : i < length gs → total + written_block_most ≤ length forms
   forming_long h =
       let low : total ≤ written_block_most * i = v.most in
-      let room : written_block_most * n ≤ length forms₀ = v.room.each in
+      let room : written_block_most * length gs ≤ length forms₀ = v.room.each in
       omega (arith, forming_same)
 
-  pub forming_held : i < n → i < length held
-  forming_held h = omega (arith, v.sized.long, v.sized.few)
-
-  pub forming_low : i < n → i < get_or l 4 0
+  pub forming_low : i < length gs → i < get_or l 4 0
   forming_low h = omega (arith, v.many)
 
-  pub forming_total : i < n → total ≤ length forms
-  forming_total h = omega (arith, forming_long h)
-
-  pub forming_room : i < n → written_block_most ≤ length (take (length forms - total) (drop total forms))
-  forming_room h =
-      let d : length (drop total forms) ≡ length forms - total = length-drop total forms in
-      let same : take (length forms - total) (drop total forms) ≡ drop total forms = take_all (length forms - total) (drop total forms) (omega arith) in
-      rw same (omega (arith, forming_long h))
-
-  module _ (h : i < n) (z : Segment) (after : List ℕ) (r : ℕ) (f : Formed (get_or held i z).ended l i (take (length forms - total) (drop total forms)) after r) where
+  module _ (h : i < length gs) (z : Segment) (after : List ℕ) (r : ℕ) (f : Formed (get_or gs i z).ended l i (take (length forms - total) (drop total forms)) after r) where
     end : End
-    end = (get_or held i z).ended
+    end = (get_or gs i z).ended
 
     here_is : get_or es i end ≡ end
     unfolding end
-    here_is =
-        get_or-map (λ (g : Segment). g.ended) (take n held) i (get_or held i z)
-        ∙ ap (λ (g : Segment). g.ended) (get_or-take n held i (get_or held i z) h ∙ get_again held i z)
+    here_is = get_or-map (λ (g : Segment). g.ended) gs i (get_or gs i z) ∙ ap (λ (g : Segment). g.ended) (get_again gs i z)
 
-    pub forming_on : Forming held l forms₀ n (set each i r) (total + r) (i + 1) (put_mid total (length forms - total) forms after)
+    pub forming_on : Forming gs l forms₀ (set each i r) (total + r) (i + 1) (put_mid total (length forms - total) forms after)
     unfolding end
     forming_on =
         let bs = v.blocks in
@@ -279,7 +258,6 @@ module _ (held : List Segment) (l forms₀ : List ℕ) (n : ℕ) (each : List �
         let as_many : length (take i es) ≡ length (take i cs) =
         length-take-le i es (omega (arith, ends_long)) ∙ sym (length-take-le i cs (omega (arith, low))) in
         record {
-          sized = v.sized;
           left = omega arith;
           many = v.many;
           eight = v.eight;
@@ -299,10 +277,10 @@ module _ (held : List Segment) (l forms₀ : List ℕ) (n : ℕ) (each : List �
           wide = length-set each i r ∙ v.wide;
         }
 
-  pub forming_done : n ≤ i → Laid (ends_of (take n held)) l forms (record { each = each; total = total })
+  pub forming_done : length gs ≤ i → Laid (ends_of gs) l forms (record { each = each; total = total })
   forming_done h =
       let bs = v.blocks in
-      let same : i ≡ n = omega (arith, v.left) in
+      let same : i ≡ length gs = omega (arith, v.left) in
       let cs : List Content = (book_of l).segments in
       let all : take i cs ≡ cs = take_all i cs (omega (arith, v.many, segments_length l)) in
       let fits : length (in_order bs) ≤ length forms₀ = omega (arith, v.is, v.most, v.room.each) in

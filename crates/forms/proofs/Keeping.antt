@@ -1,21 +1,18 @@
 -- What of a text is kept, and the text with new blocks: their lengths, and the two ways of naming the segments. Assumes nothing.
 use Prim.Native.Nat.{ℕ, ◌+◌, ◌-◌, ◌*◌, ◌≤◌, ◌<◌}
-use native.Mathlib.Nat.{zero-add}
 use native.Mathlib.Numerals.{add-one}
 use native.Mathlib.Omega.{arith}
 use mathlib.Core.Path.{◌≡◌, refl, sym, ap, ap₂, ◌∙◌}
 use mathlib.Core.List.{List, [], ◌∷◌, ◌++◌, map, append_assoc}
 use lib.ListN.{length, take, drop, get_or, length-append, length-drop, drop_of_length-le}
-use lib.Seq.{take_all, drop-cons, get_or-take, length-take-le, drop-append_seam, take-append_seam}
+use lib.Seq.{take_all, drop-cons, length-take-le, drop-append_seam, take-append_seam}
 use borrow.Table.Elements.{take-le}
-use mir.Syntax.{w64}
-use mir.Val.{Fits}
 use Rattle.laws.proofs.Tests.{impossible}
 use Rattle.lines.specs.Spans.{part}
 use Rattle.codes.specs.Written.{in_order}
 use Rattle.lines.specs.declared.End.{End}
 use Rattle.segments.specs.Segments as rule
-use Rattle.segments.specs.Seen.{seen, Sized}
+use Rattle.segments.specs.Seen.{seen, segments_held, Sized}
 use Rattle.segments.specs.declared.Segment.{Segment}
 use Rattle.segments.specs.declared.Segments.{Segments}
 use Rattle.forms.specs.Edited.{edited_from, ends_in}
@@ -69,60 +66,48 @@ unfolding sum_of in_order
 sum_lengths [] = refl
 sum_lengths (b ∷ blocks) = omega (arith, sum_lengths blocks, length-append b (in_order blocks))
 
--- ---- the first n of a list, from i on
-module _ {A : Type 0} (held : List A) (n i : ℕ) (long : n ≤ length held) where
-  pub next_held : (z : A) → i < n → drop i (take n held) ≡ get_or held i z ∷ drop (i + 1) (take n held)
-  next_held z h =
-      let m : length (take n held) ≡ n = length-take-le n held long in
-      drop-cons (take n held) i z (omega arith) ∙ ap₂ (λ (x : A) (k : ℕ). x ∷ drop k (take n held)) (get_or-take n held i z h) (sym (add-one i))
+-- ---- the segments that are held
+pub held_many : (gs : Segments) → Sized gs → length (segments_held gs) ≡ gs.count
+held_many gs z = length-take-le gs.count gs.held (omega (arith, z.long, z.few))
 
-  pub none_held : n ≤ i → drop i (take n held) ≡ []
-  none_held h = let m : length (take n held) ≡ n = length-take-le n held long in drop_of_length-le (take n held) {i = i} (omega arith)
+held_few : (gs : Segments) → Sized gs → length (segments_held gs) ≤ 8
+held_few gs z = omega (arith, held_many gs z, z.few)
+
+-- ---- a list from i on
+module _ {A : Type 0} (l : List A) (i : ℕ) where
+  pub next_of : (z : A) → i < length l → drop i l ≡ get_or l i z ∷ drop (i + 1) l
+  next_of z h = drop-cons l i z h ∙ ap (λ (k : ℕ). get_or l i z ∷ drop k l) (sym (add-one i))
+
+  pub none_of : length l ≤ i → drop i l ≡ []
+  none_of h = drop_of_length-le l {i = i} h
 
 -- ---- the loop that counts what is kept: so many bytes up to segment i
-pub record Counting (text : List ℕ) (held : List Segment) (count i at kept : ℕ) : Type 0 where
-  pub left : i ≤ count
-  pub sized : Sized (record { held = held; count = count })
+pub record Counting (text : List ℕ) (gs : List Segment) (i at kept : ℕ) : Type 0 where
+  pub left : i ≤ length gs
+  pub few : length gs ≤ 8
   pub short : length text ≤ 16384
-  pub same : kept + kept_length at text (drop i (take count held)) ≡ kept_length 0 text (take count held)
+  pub same : kept + kept_length at text (drop i gs) ≡ kept_length 0 text gs
   pub low : kept ≤ 16384 * i
 
-pub counting_start : (text : List ℕ) (gs : Segments) → Sized gs → length text ≤ 16384 → Counting text gs.held gs.count 0 0 0
-counting_start text gs z s = record { left = omega arith; sized = z; short = s; same = zero-add _; low = omega arith }
-
-module _ (text : List ℕ) (held : List Segment) (count i at kept : ℕ) (v : Counting text held count i at kept) where
-  few : count ≤ length held
-  few = omega (arith, v.sized.long, v.sized.few)
-
-  module _ (h : i < count) (z : Segment) where
-    pub counting_fits : (b : List ℕ) → b ≡ part text at (get_or held i z).start → Fits w64 (kept + length b)
-    counting_fits b q = rw q (omega (arith, v.low, v.sized.few, v.short, part_short text at (get_or held i z).start))
-
-    pub counting_on : (b : List ℕ) → b ≡ part text at (get_or held i z).start → Counting text held count (i + 1) (get_or held i z).block (kept + length b)
+module _ (text : List ℕ) (gs : List Segment) (i at kept : ℕ) (v : Counting text gs i at kept) where
+  module _ (h : i < length gs) (z : Segment) where
+    pub counting_on : (b : List ℕ) → b ≡ part text at (get_or gs i z).start → Counting text gs (i + 1) (get_or gs i z).block (kept + length b)
     unfolding kept_length
     counting_on b q =
-        let g : Segment = get_or held i z in
-        let gs : List Segment = take count held in
-        let e : kept_length at text (drop i gs) ≡ length (part text at g.start) + kept_length g.block text (drop (i + 1) gs) =
-        ap (kept_length at text) (next_held held count i few z h) in
+        let g : Segment = get_or gs i z in
+        let e : kept_length at text (drop i gs) ≡ length (part text at g.start) + kept_length g.block text (drop (i + 1) gs) = ap (kept_length at text) (next_of gs i z h) in
         record {
           left = omega arith;
-          sized = v.sized;
+          few = v.few;
           short = v.short;
           same = rw q (omega (arith, v.same, e));
           low = rw q (omega (arith, v.low, v.short, part_short text at g.start));
         }
 
-  pub counting_end : count ≤ i → (b : List ℕ) → b ≡ part text at (length text) → Fits w64 (kept + length b)
-  counting_end h b q = rw q (omega (arith, v.left, v.low, v.sized.few, v.short, part_short text at (length text)))
-
-  pub counting_most : count ≤ i → (b : List ℕ) → b ≡ part text at (length text) → kept + length b ≤ 147456
-  counting_most h b q = rw q (omega (arith, v.left, v.low, v.sized.few, v.short, part_short text at (length text)))
-
-  pub counting_done : count ≤ i → (b : List ℕ) → b ≡ part text at (length text) → kept + length b ≡ kept_length 0 text (take count held)
+  pub counting_done : length gs ≤ i → (b : List ℕ) → b ≡ part text at (length text) → kept + length b ≡ kept_length 0 text gs
   unfolding kept_length
   counting_done h b q =
-      let e : kept_length at text (drop i (take count held)) ≡ length (drop at text) = ap (kept_length at text) (none_held held count i few h) in
+      let e : kept_length at text (drop i gs) ≡ length (drop at text) = ap (kept_length at text) (none_of gs i h) in
       rw q (omega (arith, v.same, e, ap (λ (x : List ℕ). length x) (part_rest text at)))
 
 -- how the first lines ended, by the segments as the reader answers them

@@ -1,9 +1,9 @@
 // The new blocks of an edited bulletin, and the text with them: document 02, R-1.
 #![tactic(auto)]
 
-ghost use Rattle.std.specs.Prelude.{◌≡◌, ◌+◌, ◌≤◌, ◌<◌, length, get_or};
+ghost use Rattle.std.specs.Prelude.{◌≡◌, ◌≤◌, ◌<◌, length, get_or};
 ghost use Rattle.segments.specs.Seen.{segments_held, Sized};
-ghost use Rattle.writing.specs.Pen.{Stored, written_block_most};
+ghost use Rattle.writing.specs.Pen.{written_block_most};
 ghost use Rattle.writing.specs.Write.{output_of};
 ghost use Rattle.refusal.specs.Answer.{ok};
 ghost use Rattle.forms.specs.Forms.{SoundBook, Formed, RoomFor, ends_of, Laid, kept_length, filled_in, Cuttable};
@@ -26,10 +26,8 @@ fn write_form(book: &[u8], i: usize, end: End, out: &mut [u8]) -> usize
     ensures { Formed end book.now i out.old out.new result }
 {
     let held = blocks::load(blocks::as_book(book), i + 1);
-    let places = held.places;
-    let count = held.count;
     let minute = held.purge as usize;
-    writing::write_ended(out, &places[0..count], minute, end).unwrap_or(0)
+    writing::write_ended(out, &held.places[..held.count], minute, end).unwrap_or(0)
 }
 
 // Writes the forms of all segments of a sound book, one behind the other. The lines of each end as the first line of the segment in the text, of which there are as many.
@@ -39,18 +37,12 @@ pub fn write_forms(book: &[u8], segments: Segments, forms: &mut [u8]) -> Sizes
     requires room_for { RoomFor segments.count forms.old }
     ensures { Laid (ends_of (segments_held segments)) book.now forms.new result }
 {
-    let held = segments.held;
-    let n = segments.count;
-    let mut each: [usize; 8] = [0; 8];
-    let mut total: usize = 0;
-    let mut i: usize = 0;
-    while i < n {
-        let segment = held[i];
-        let end = segment.ended;
-        let size = write_form(book, i, end, &mut forms[total..]);
+    let mut each = [0; 8];
+    let mut total = 0;
+    for (i, segment) in segments.held[..segments.count].iter().enumerate() {
+        let size = write_form(book, i, segment.ended, &mut forms[total..]);
         each[i] = size;
         total += size;
-        i += 1;
     }
     Sizes { each, total }
 }
@@ -61,34 +53,15 @@ pub fn kept_length(text: &[u8], segments: Segments) -> usize
     ensures is { result ≡ kept_length 0 text.now (segments_held segments) }
     ensures most { result ≤ 147456 }
 {
-    let held = segments.held;
-    let count = segments.count;
-    let mut kept: usize = 0;
-    let mut at: usize = 0;
-    let mut i: usize = 0;
-    while i < count {
-        let g = held[i];
-        let before = lines::part(text, at, g.start);
+    let mut kept = 0;
+    let mut at = 0;
+    for segment in &segments.held[..segments.count] {
+        let before = lines::part(text, at, segment.start);
         kept += before.len();
-        at = g.block;
-        i += 1;
+        at = segment.block;
     }
     let tail = lines::part(text, at, text.len());
     kept + tail.len()
-}
-
-// Copies bytes to pos, and answers the place behind them.
-fn put(out: &mut [u8], pos: usize, bytes: &[u8]) -> usize
-    requires { pos + length bytes.now ≤ length out.old }
-    ensures { Stored out.old out.new pos result bytes.now }
-{
-    let n = bytes.len();
-    let mut i: usize = 0;
-    while i < n {
-        out[pos + i] = bytes[i];
-        i += 1;
-    }
-    pos + n
 }
 
 // Copies the text to the front of out, with each segment's block replaced by its form.
@@ -97,24 +70,18 @@ pub fn put_edited(text: &[u8], segments: Segments, forms: &[u8], sizes: Sizes, o
     requires each_in_bounds { length (filled_in text.now segments forms.now sizes.each) ≤ length out.old }
     ensures { out.new ≡ output_of (ok (filled_in text.now segments forms.now sizes.each)) out.old }
 {
-    let held = segments.held;
-    let count = segments.count;
-    let each = sizes.each;
-    let mut pos: usize = 0;
-    let mut at: usize = 0;
-    let mut form: usize = 0;
-    let mut i: usize = 0;
-    while i < count {
-        let next = form + each[i];
-        let g = held[i];
-        let kept = lines::part(text, at, g.start);
-        pos = put(&mut *out, pos, kept);
+    let mut pos = 0;
+    let mut at = 0;
+    let mut form = 0;
+    for (i, segment) in segments.held[..segments.count].iter().enumerate() {
+        let kept = lines::part(text, at, segment.start);
+        pos = writing::put(out, pos, kept);
+        let next = form + sizes.each[i];
         let block = lines::part(forms, form, next);
-        pos = put(&mut *out, pos, block);
+        pos = writing::put(out, pos, block);
         form = next;
-        at = g.block;
-        i += 1;
+        at = segment.block;
     }
     let rest = lines::part(text, at, text.len());
-    put(&mut *out, pos, rest);
+    writing::put(out, pos, rest);
 }

@@ -10,7 +10,7 @@ use Rattle.std.specs.Prelude.{Option, None, Some}
 use lib.ListN.{length, take, drop, get_or, length-drop}
 use Rattle.std.specs.Prelude.{slice_get}
 use lib.Dec.{eqb, leb}
-use lib.Seq.{get_or-take, take-suc, length-take-le}
+use lib.Seq.{take-suc, take_all, length-take-le}
 use mir.Syntax.{w32, w64}
 use mir.Val.{Fits}
 use borrow.Author.Tests.{leb-true, eqb-true, eqb-false}
@@ -29,7 +29,7 @@ use Rattle.segments.specs.Seen.{segments_held, Sized}
 use Rattle.segments.specs.declared.Segment.{Segment}
 use Rattle.segments.specs.declared.Segments.{Segments}
 use Rattle.checks.specs.Seal.{block_length}
-use Rattle.blocks.specs.Block.{book_length, block_count, block_of, put_block}
+use Rattle.blocks.specs.Block.{book_length, block_of, put_block}
 use Rattle.blocks.specs.Content.{holding}
 use Rattle.blocks.proofs.Blocks.{put_length, put_same_block, put_other_block}
 use Rattle.blocks.proofs.Contents.{used_length}
@@ -76,10 +76,6 @@ contents_more i kept (x ∷ gs) g =
     let e : suc i + length gs ≡ i + suc (length gs) = omega arith in
     ap (λ (cs : List codes.Content). record { purge = x.purge; places = take x.count (drop (capacity * i) kept) } ∷ cs) (contents_more (suc i) kept gs g ∙ rw e)
 
--- ---- a book whose blocks are all unused
-pub filled_none : (l : List ℕ) → length l ≡ book_length → ((k : ℕ) → k < block_count → block_of k l ≡ holding None) → Filled [] l
-filled_none l h f = record { long = h; first = f 0 (omega arith); blocks = λ k n. f (suc k) (omega arith) }
-
 -- one block more
 module _ (cs : List codes.Content) (l : List ℕ) (f : Filled cs l) (i : ℕ) (at : length cs ≡ i) (low : i < 48) (c : codes.Content) (few : length c.places ≤ capacity) where
   filled_more : Filled (cs ++ (c ∷ [])) (put_block (suc i) (holding (Some c)) l)
@@ -100,59 +96,56 @@ module _ (cs : List codes.Content) (l : List ℕ) (f : Filled cs l) (i : ℕ) (a
       }
 
 -- ---- the loop: the first i segments' contents are stored
-pub record Filling (kept : List ℕ) (held : List Segment) (count i : ℕ) (l : List ℕ) : Type 0 where
-  pub left : i ≤ count
-  pub sized : Sized (record { held = held; count = count })
-  pub storable : All Storable (take count held)
-  pub filled : Filled (contents_from 0 kept (take i held)) l
+pub record Filling (kept : List ℕ) (gs : List Segment) (i : ℕ) (l : List ℕ) : Type 0 where
+  pub left : i ≤ length gs
+  pub eight : length gs ≤ 8
+  pub storable : All Storable gs
+  pub filled : Filled (contents_from 0 kept (take i gs)) l
 
-pub filling_start : (kept : List ℕ) (gs : Segments) (l : List ℕ) → Sized gs → All Storable (segments_held gs) → Filled [] l → Filling kept gs.held gs.count 0 l
+pub filling_start : (kept : List ℕ) (gs : Segments) (l : List ℕ) → Sized gs → All Storable (segments_held gs) → Filled [] l → Filling kept (segments_held gs) 0 l
 unfolding contents_from
-filling_start kept gs l z a f = record { left = omega arith; sized = z; storable = a; filled = f }
+filling_start kept gs l z a f =
+    record { left = omega arith; eight = omega (arith, length-take-le gs.count gs.held (omega (arith, z.long, z.few)), z.few); storable = a; filled = f }
 
-module _ (kept : List ℕ) (held : List Segment) (count i : ℕ) (l : List ℕ) (v : Filling kept held count i l) where
-  pub filling_long : length l ≡ book_length
-  filling_long = v.filled.long
+module _ (kept : List ℕ) (gs : List Segment) (i : ℕ) (l : List ℕ) (v : Filling kept gs i l) where
+  pub filling_done : length gs ≤ i → Filled (contents_from 0 kept gs) l
+  filling_done h = subst (λ (hs : List Segment). Filled (contents_from 0 kept hs) l) (take_all i gs h) v.filled
 
-  pub filling_done : count ≤ i → Filled (contents_from 0 kept (take count held)) l
-  filling_done h = let s : i ≡ count = omega (arith, v.left) in subst (λ (j : ℕ). Filled (contents_from 0 kept (take j held)) l) s v.filled
+  module _ (h : i < length gs) (z : Segment) where
+    fits : Storable (get_or gs i z)
+    fits = all_get z i v.storable h
 
-  module _ (h : i < count) (z : Segment) where
-    fits : Storable (get_or held i z)
-    fits = subst Storable (get_or-take count held i z h) (all_get z i v.storable (rw (length-take-le count held (omega (arith, v.sized.long, v.sized.few))) h))
+    pub filling_fits : Fits w64 (capacity * i + (get_or gs i z).count)
+    filling_fits = omega (arith, v.eight, fits.few)
 
-    pub filling_fits : Fits w64 (capacity * i + (get_or held i z).count)
-    filling_fits = omega (arith, v.sized.few, fits.few)
-
-    pub filling_low : Fits w32 (get_or held i z).purge
+    pub filling_low : Fits w32 (get_or gs i z).purge
     filling_low = omega (arith, fits.low)
 
     module _ (m : length kept ≡ 960) where
-      pub filling_end : capacity * i + (get_or held i z).count ≤ length kept
-      filling_end = omega (arith, v.sized.few, fits.few)
+      pub filling_end : capacity * i + (get_or gs i z).count ≤ length kept
+      filling_end = omega (arith, v.eight, fits.few)
 
-      pub filling_few : length (take (capacity * i + (get_or held i z).count - capacity * i) (drop (capacity * i) kept)) ≤ capacity
-      filling_few = rw (length-take-le (capacity * i + (get_or held i z).count - capacity * i) (drop (capacity * i) kept) (rw length-drop (omega (arith, filling_end)))) (omega (arith, fits.few))
+      pub filling_few : length (take (capacity * i + (get_or gs i z).count - capacity * i) (drop (capacity * i) kept)) ≤ capacity
+      filling_few = rw (length-take-le (capacity * i + (get_or gs i z).count - capacity * i) (drop (capacity * i) kept) (rw length-drop (omega (arith, filling_end)))) (omega (arith, fits.few))
 
       pub filling_on : (d : List ℕ)
-          → d ≡ put_block (i + 1) (holding (Some (record { purge = (get_or held i z).purge; places = take (capacity * i + (get_or held i z).count - capacity * i) (drop (capacity * i) kept) }))) l
-          → Filling kept held count (i + 1) d
+          → d ≡ put_block (i + 1) (holding (Some (record { purge = (get_or gs i z).purge; places = take (capacity * i + (get_or gs i z).count - capacity * i) (drop (capacity * i) kept) }))) l
+          → Filling kept gs (i + 1) d
       filling_on d e =
-          let g : Segment = get_or held i z in
+          let g : Segment = get_or gs i z in
           let c : codes.Content = record { purge = g.purge; places = take g.count (drop (capacity * i) kept) } in
-          let eight : count ≤ 8 = v.sized.few in
-          let wide : length held ≡ 8 = v.sized.long in
+          let eight : length gs ≤ 8 = v.eight in
           let n : capacity * i + g.count - capacity * i ≡ g.count = omega arith in
           let same : d ≡ put_block (suc i) (holding (Some c)) l =
           e ∙ ap₂ (λ (k j : ℕ). put_block k (holding (Some (record { purge = g.purge; places = take j (drop (capacity * i) kept) }))) l) (add-one i) n in
-          let taken : length (take i held) ≡ i = length-take-le i held (omega arith) in
-          let cs : List codes.Content = contents_from 0 kept (take i held) in
-          let are : contents_from 0 kept (take (i + 1) held) ≡ cs ++ (c ∷ []) =
-          ap (λ (k : ℕ). contents_from 0 kept (take k held)) (add-one i) ∙ ap (contents_from 0 kept) (take-suc held i z (omega arith)) ∙ contents_more 0 kept (take i held) g ∙ rw (taken, zero-add i) in
+          let taken : length (take i gs) ≡ i = length-take-le i gs (omega arith) in
+          let cs : List codes.Content = contents_from 0 kept (take i gs) in
+          let are : contents_from 0 kept (take (i + 1) gs) ≡ cs ++ (c ∷ []) =
+          ap (λ (k : ℕ). contents_from 0 kept (take k gs)) (add-one i) ∙ ap (contents_from 0 kept) (take-suc gs i z h) ∙ contents_more 0 kept (take i gs) g ∙ rw (taken, zero-add i) in
           let short : length c.places ≤ capacity = subst (λ (j : ℕ). length (take j (drop (capacity * i) kept)) ≤ capacity) n filling_few in
           record {
             left = omega arith;
-            sized = v.sized;
+            eight = eight;
             storable = v.storable;
-            filled = rw (are, same) (filled_more cs l v.filled i (contents_length 0 kept (take i held) ∙ taken) (omega arith) c short);
+            filled = rw (are, same) (filled_more cs l v.filled i (contents_length 0 kept (take i gs) ∙ taken) (omega arith) c short);
           }

@@ -19,15 +19,10 @@ fn fill(book: &mut BookBytes, kept: &[u32], segments: Segments)
     requires sized { Sized segments × All Storable (segments_held segments) }
     ensures { Filled (contents_from 0 kept.now (segments_held segments)) book.new }
 {
-    let held = segments.held;
-    let count = segments.count;
-    let mut i: usize = 0;
-    while i < count {
-        let g = held[i];
+    for (i, segment) in segments.held[..segments.count].iter().enumerate() {
         let from = 120 * i;
-        let to = from + g.count;
-        blocks::store(book, i + 1, g.purge as u32, &kept[from..to]);
-        i += 1;
+        let to = from + segment.count;
+        blocks::store(book, i + 1, segment.purge as u32, &kept[from..to]);
     }
 }
 

@@ -1,9 +1,6 @@
-use Rattle.forms.proofs.Putting.{putting_start, putting_fits, putting_kept, putting_block, putting_on, putting_rest, putting_done, putting_same}
+use Rattle.forms.proofs.Putting.{putting_fits, putting_kept, putting_block, putting_on, putting_rest, putting_done}
 use Rattle.std.proofs.Common.{rules}
 use Rattle.forms.proofs.put_edited.Goals as goal
-
-pub loop-i-init : goal.loop-i-init
-loop-i-init c = search (putting_start, rules)
 
 pub overflow_add-next : goal.overflow_add-next
 overflow_add-next c = search (putting_fits, rules)
@@ -20,9 +17,6 @@ loop-i-preserved c = putting_on _ _ _ _ _ _ _ _ _ _ _ c.loop-i.invariant (search
 
 pub put-requires : goal.put-requires
 put-requires c = search (putting_rest, rules)
-
-pub shape_of-out : goal.shape_of-out
-shape_of-out c = search (putting_same, rules)
 
 pub returns : goal.returns
 returns c = putting_done _ _ _ _ _ _ _ _ _ _ _ c.loop-i.invariant (search rules) _ c.part-rest.ensures _ _ c.put.ensures

@@ -1,9 +1,6 @@
-use Rattle.forms.proofs.Forming.{form_block, form_fits, form_few, form_length}
+use Rattle.forms.proofs.Forming.{form_block, form_few, form_length}
 use Rattle.std.proofs.Common.{rules}
 use Rattle.forms.proofs.write_form.Goals as goal
-
-pub overflow_add-i : goal.overflow_add-i
-overflow_add-i c = search (form_fits, rules)
 
 pub load-held-requires : goal.load-held-requires
 load-held-requires c = (search (form_block, rules), rw c.as_book.ensures (search (form_few, rules)))

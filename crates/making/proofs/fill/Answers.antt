@@ -1,4 +1,4 @@
-use Rattle.making.proofs.Filling.{filling_start, filling_fits, filling_low, filling_end, filling_few, filling_on, filling_done}
+use Rattle.making.proofs.Filling.{filling_start, filling_fits, filling_low, filling_end, filling_few, filling_on}
 use Rattle.std.proofs.Common.{rules}
 use Rattle.making.proofs.fill.Goals as goal
 
@@ -8,8 +8,8 @@ loop-i-init c = search (filling_start, rules)
 pub overflow_add-to : goal.overflow_add-to
 overflow_add-to c = search (filling_fits, rules)
 
-pub overflow_cast-g : goal.overflow_cast-g
-overflow_cast-g c = search (filling_low, rules)
+pub overflow_cast-segment : goal.overflow_cast-segment
+overflow_cast-segment c = search (filling_low, rules)
 
 pub slice_bounds-store-end : goal.slice_bounds-store-end
 slice_bounds-store-end c = search (filling_end, rules)
@@ -18,7 +18,4 @@ pub store-requires : goal.store-requires
 store-requires c = (search rules, search (filling_few, rules))
 
 pub loop-i-preserved : goal.loop-i-preserved
-loop-i-preserved c = filling_on _ _ _ _ _ c.loop-i.invariant (search rules) _ (search rules) _ c.store.ensures
-
-pub returns : goal.returns
-returns c = search (filling_done, rules)
+loop-i-preserved c = filling_on _ _ _ _ c.loop-i.invariant (search rules) _ (search rules) _ c.store.ensures

@@ -1,16 +1,12 @@
 use mathlib.Core.Path.{◌≡◌}
 use Rattle.std.specs.Prelude.{Ok, Err}
 use Rattle.refusal.proofs.Exits.{handed}
-use Rattle.making.proofs.Filling.{filled_none}
 use Rattle.making.proofs.Making.{make_short, make_refused, make_issue, make_storable, make_made}
 use Rattle.std.proofs.Common.{rules}
 use Rattle.making.proofs.make.Goals as goal
 
 pub returns-in_default : goal.returns-in_default
 returns-in_default c = let short = c.in_default.ensures.cases in search (make_short, rules)
-
-pub fill-requires-clause-filled : goal.fill-requires-clause-filled
-fill-requires-clause-filled c = search (filled_none, rules)
 
 pub fill-requires-clause-sized : goal.fill-requires-clause-sized
 fill-requires-clause-sized c =
