@@ -52,7 +52,7 @@ fn three(text: &[u8], i: usize) -> usize
     let x = less(text[i], 48);
     let y = less(text[i + 1], 48);
     let z = less(text[i + 2], 48);
-    wide(100 * x + 10 * y + z)
+    (100 * x + 10 * y + z) as usize
 }
 
 // The number that two bytes spell, from byte k on.
@@ -65,14 +65,7 @@ pub fn two(e: &[u8], k: usize) -> usize
     }
     let x = less(lines::byte(e, k), 48);
     let y = less(lines::byte(e, k + 1), 48);
-    wide(10 * x + y)
-}
-
-// A number of 32 bits as a size.
-pub fn wide(n: u32) -> usize
-    ensures { result ≡ n }
-{
-    n as usize
+    (10 * x + y) as usize
 }
 
 // C is 0, Z is 1.
@@ -91,7 +84,7 @@ fn prefix(text: &[u8], i: usize) -> usize
     let s = less(text[i], 65);
     let t = less(text[i + 1], 65);
     let f = kind(text[i + 2]);
-    wide((26 * s + t) * 2 + f)
+    ((26 * s + t) * 2 + f) as usize
 }
 
 // The forms of an element. None has a `-` or a byte of a line's end before its last byte: where a form stands, its element is just those bytes, and

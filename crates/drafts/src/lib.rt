@@ -117,7 +117,7 @@ pub fn read_purge(book: &[u8], d: usize, s: usize) -> Result<Reply, Refusal>
     copies::admit(book, d, true, s)?;
     let k = copies::find_copy(book, d, s).ok_or(Reason::NotTaken)?;
     let h = blocks::load(blocks::as_book(book), k);
-    Ok(Reply::Number(codes::wide(h.purge)))
+    Ok(Reply::Number(h.purge as usize))
 }
 
 // The count of places of a draft's copy.
@@ -140,5 +140,5 @@ pub fn read_place(book: &[u8], d: usize, s: usize, i: usize) -> Result<Reply, Re
     if h.count <= i {
         return Err(Reason::OutOfRange.into());
     }
-    Ok(Reply::Number(codes::wide(h.places[i])))
+    Ok(Reply::Number(h.places[i] as usize))
 }

@@ -87,7 +87,7 @@ pub fn set_purge(book: &mut [u8], d: usize, s: usize, time: Stamp) -> Result<Rep
     copies::admit(book, d, calendar::is_time(time), s)?;
     let k = copies::find_copy(book, d, s).ok_or(Reason::NotTaken)?;
     let h = blocks::load(blocks::as_book(book), k);
-    let issue = codes::wide(blocks::number_at(book, 0));
+    let issue = blocks::number_at(book, 0) as usize;
     let minute = calendar::purge_of(issue, time).ok_or(Reason::WrongTime)?;
     let new = Held {
         purge: minute as u32,

@@ -1,7 +1,7 @@
 // Line 1, line 2 and the office line of a bulletin: document 01, "Text and lines".
 #![tactic(auto)]
 
-ghost use Rattle.std.specs.Prelude.{◌≡◌, if◌then◌else◌, option_map, ◌-◌, ◌≤◌, ◌<◌, length, get_or, drop, IfErr};
+ghost use Rattle.std.specs.Prelude.{◌≡◌, if◌then◌else◌, option_map, ◌-◌, ◌≤◌, ◌<◌, Some, length, get_or, drop, IfErr};
 ghost use Rattle.refusal.specs.declared.Reason.TheVariants.{WrongStorm};
 ghost use Rattle.lines.specs.Bytes.{between, begins};
 ghost use Rattle.heading.specs.Heading.{times, heading_form, bbb_after, heading_of, capital_or_digit, is_identifier};
@@ -10,10 +10,18 @@ ghost use Rattle.heading.specs.Paper.{is_amendment, paper_bbb, paper_heading, pa
 
 use calendar::Stamp;
 use refusal::Reason;
+use std::fmt;
 
 // BBB's three letters.
 #[derive(Clone, Copy)]
 pub struct Bbb(pub u8, pub u8, pub u8);
+
+impl fmt::Display for Bbb {
+    fn fmt<W: fmt::Write>(&self, f: &mut fmt::Formatter<W>) -> fmt::Result {
+        let Bbb(a, b, c) = *self;
+        write!(f, "{}{}{}", a as char, b as char, c as char)
+    }
+}
 
 #[derive(Clone, Copy)]
 pub struct Heading {
@@ -21,21 +29,38 @@ pub struct Heading {
     pub bbb: Option<Bbb>,
 }
 
+// The basins, numbered from 1.
 #[derive(Clone, Copy)]
 pub enum Basin {
-    Al,
-    Sl,
-    Ep,
-    Cp,
-    Wp,
+    Al = 1,
+    Sl = 2,
+    Ep = 3,
+    Cp = 4,
+    Wp = 5,
 }
 
+// Its two letters.
+impl fmt::Display for Basin {
+    ghost output = { λ basin. Some (paper_basin basin) };
+
+    fn fmt<W: fmt::Write>(&self, f: &mut fmt::Formatter<W>) -> fmt::Result {
+        f.write_str(match self {
+            Basin::Al => "AL",
+            Basin::Sl => "SL",
+            Basin::Ep => "EP",
+            Basin::Cp => "CP",
+            Basin::Wp => "WP",
+        })
+    }
+}
+
+// The classes, numbered from 1.
 #[derive(Clone, Copy)]
 pub enum Class {
-    Cyclone,
-    Internal,
-    Training,
-    Disturbance,
+    Cyclone = 1,
+    Internal = 2,
+    Training = 3,
+    Disturbance = 4,
 }
 
 #[derive(Clone, Copy)]
@@ -44,6 +69,13 @@ pub struct StormId {
     pub class: Class,
     pub number: usize,
     pub year: usize,
+}
+
+// The basin, the number's two digits and the year's four, as an office line has them.
+impl fmt::Display for StormId {
+    fn fmt<W: fmt::Write>(&self, f: &mut fmt::Formatter<W>) -> fmt::Result {
+        write!(f, "{}{:02}{:04}", self.basin, self.number, self.year)
+    }
 }
 
 // Whether the line's bytes from one place up to another are all from `low` to `high`.

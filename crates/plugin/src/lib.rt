@@ -237,7 +237,7 @@ fn place_at(text: &[u8], start: usize, issue: usize, i: usize) -> Result<Reply, 
         return Err(Reason::OutOfRange.into());
     }
     let held = places.held;
-    Ok(Reply::Number(codes::wide(held[i])))
+    Ok(Reply::Number(held[i] as usize))
 }
 
 // The place at index i of segment n.

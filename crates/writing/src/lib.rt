@@ -69,7 +69,7 @@ fn is_set(places: &[u32]) -> bool
 fn is_last(last: Option<usize>, p: u32) -> bool
     ensures { new_prefix last p ≡ cond result [] (prefix_bytes p) }
 {
-    last == Some(codes::wide(p))
+    last == Some(p as usize)
 }
 
 // Copies bytes to pos, and answers the place behind them.
@@ -270,7 +270,7 @@ impl Pen {
         ensures most { result.pos ≤ self.pos + 2 * ink_most }
     {
         if run.more == 1 {
-            let under = codes::wide(run.lo / 1000);
+            let under = (run.lo / 1000) as usize;
             let next = self.add(out, last, Run::single(run.lo), end);
             return next.add(out, Some(under), Run::single(run.lo + 1), end);
         }
@@ -294,7 +294,7 @@ impl State {
             };
         }
         let next = pen.flush(out, last, run, end);
-        let under = codes::wide(lo / 1000);
+        let under = (lo / 1000) as usize;
         State {
             pen: next,
             last: Some(under),

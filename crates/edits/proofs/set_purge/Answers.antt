@@ -57,11 +57,11 @@ returns-in_err-minute c = let l = c.args.book.now in
     let w = working l y _ _ _ _ is c.admit.ensures _ c.find_copy.ensures _ q in
     let r = ranging l _ _ _ _ is c.admit.ensures in
     let p : Refuses c.purge_of.result (refusal_for WrongTime 0) c.from_residual-in_err-minute.result = search (none_refused, rules) in
-    rw p.is (purge_none l _ _ _ w _ c.load-h.ensures.fits (rw c.as_book.ensures at c.load-h.ensures.is) _ _ r c.is_time.ensures _ (c.wide-issue.ensures ∙ c.number_at.ensures) _ c.purge_of.ensures p.nothing _ refl)
+    rw p.is (purge_none l _ _ _ w _ c.load-h.ensures.fits (rw c.as_book.ensures at c.load-h.ensures.is) _ _ r c.is_time.ensures _ c.number_at-issue.ensures _ c.purge_of.ensures p.nothing _ refl)
 
-pub number_at-requires : goal.number_at-requires
+pub number_at-issue-requires : goal.number_at-issue-requires
 unfolding Bytes
-number_at-requires c = let l = c.args.book.now in
+number_at-issue-requires c = let l = c.args.book.now in
     let y : Bytes l = λ i. omega (arith, c.slice_known-1.given i) in
     let is : c.admit.result ≡ Ok tt = c.in_ok-admit.was in
     let q : c.find_copy.result ≡ Some c.in_ok-k.k = grind arith in
@@ -92,4 +92,4 @@ returns c = let l = c.args.book.now in
     let given : c.purge_of.result ≡ Some c.in_ok-minute.minute = grind arith in
     let w = working l y _ _ _ _ is c.admit.ensures _ c.find_copy.ensures _ q in
     let r = ranging l _ _ _ _ is c.admit.ensures in
-    purge_some l _ _ _ w _ c.load-h.ensures.fits (rw c.as_book.ensures at c.load-h.ensures.is) _ _ r c.is_time.ensures _ (c.wide-issue.ensures ∙ c.number_at.ensures) _ c.purge_of.ensures _ given _ refl _ c.store_held.ensures
+    purge_some l _ _ _ w _ c.load-h.ensures.fits (rw c.as_book.ensures at c.load-h.ensures.is) _ _ r c.is_time.ensures _ c.number_at-issue.ensures _ c.purge_of.ensures _ given _ refl _ c.store_held.ensures
