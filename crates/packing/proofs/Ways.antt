@@ -5,16 +5,13 @@ use native.Mathlib.Omega.{arith}
 use mathlib.Core.Path.{◌≡◌, refl, sym, ap, ◌∙◌}
 use Rattle.refusal.specs.Answer.{answer_by, answer_of}
 use Rattle.refusal.specs.declared.Refusal.{Refusal}
-use Rattle.lines.specs.Bytes.{exactly}
-use Rattle.heading.specs.Paper.{paper_bbb, paper_basin, paper_id}
-use Rattle.heading.specs.declared.Basin.{Basin}
-use Rattle.heading.specs.declared.Basin.TheVariants.{Al, Sl, Ep, Cp, Wp}
+use Rattle.heading.specs.Paper.{paper_bbb, paper_id}
 use Rattle.heading.specs.declared.Bbb.{Bbb}
 use Rattle.heading.specs.declared.StormId.{StormId}
 use Rattle.layout.specs.Rule.{segments_said}
 use Rattle.layout.specs.declared.Changed.{Changed}
 use Rattle.layout.specs.declared.Changed.TheVariants as changed
-use Rattle.packing.specs.Packing.{cell, pack, PacksBy, spelled, rest_end, start_end, size_end, view_bits, bbb_bits, basin_number, name_bits, storm_bits}
+use Rattle.packing.specs.Packing.{cell, pack, PacksBy, spelled, rest_end, start_end, size_end, view_bits, bbb_bits, name_bits, storm_bits}
 
 -- the number that the code builds
 pub cell_is : (low rest : ℕ) → low % 256 + 256 * (rest % rest_end) ≡ cell low rest
@@ -51,30 +48,6 @@ module _ (x : Option Bbb) where
       e ∙ ap (λ (y : Option Bbb). bbb_bits (option_map paper_bbb y)) (sym q)
 
 -- ---- a storm
-module _ (b : Basin) where
-  as_basin : (c : Basin) (n : ℕ) → n ≡ basin_number (paper_basin c) → b ≡ c → n ≡ basin_number (paper_basin b)
-  as_basin c n e q = e ∙ ap (λ (x : Basin). basin_number (paper_basin x)) (sym q)
-
-  pub basin_al : b ≡ Al → 1 ≡ basin_number (paper_basin b)
-  unfolding basin_number exactly
-  basin_al = as_basin Al 1 refl
-
-  pub basin_sl : b ≡ Sl → 2 ≡ basin_number (paper_basin b)
-  unfolding basin_number exactly
-  basin_sl = as_basin Sl 2 refl
-
-  pub basin_ep : b ≡ Ep → 3 ≡ basin_number (paper_basin b)
-  unfolding basin_number exactly
-  basin_ep = as_basin Ep 3 refl
-
-  pub basin_cp : b ≡ Cp → 4 ≡ basin_number (paper_basin b)
-  unfolding basin_number exactly
-  basin_cp = as_basin Cp 4 refl
-
-  pub basin_wp : b ≡ Wp → 5 ≡ basin_number (paper_basin b)
-  unfolding basin_number exactly
-  basin_wp = as_basin Wp 5 refl
-
 module _ (s : Option StormId) where
   pub storm_none : s ≡ None → 0 ≡ storm_bits (option_map paper_id s)
   unfolding storm_bits

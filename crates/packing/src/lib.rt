@@ -3,7 +3,6 @@
 
 ghost use Rattle.std.specs.Prelude.{◌≡◌, option_map, ◌-◌, ◌%◌, ◌≤◌, ◌<◌};
 ghost use Rattle.refusal.specs.Answer.{answer_by, answer_of};
-ghost use Rattle.layout.specs.Layout as layouts;
 ghost use Rattle.layout.specs.Rule.{segments_said, value_said};
 ghost use Rattle.heading.specs.Paper.{paper_bbb, paper_basin, paper_class, paper_id};
 ghost use Rattle.packing.specs.Packing.{cell, pack, PacksBy, value_bits, packed, nothing, plain, spelled, bbb_bits, basin_number, class_number, name_bits, storm_bits, view_bits};
@@ -30,12 +29,6 @@ fn spell(changed: Changed) -> usize
     }
 }
 
-fn bit(there: bool) -> usize
-    ensures { result ≡ layouts.bit there }
-{
-    if there { 1 } else { 0 }
-}
-
 // The answer of a call, whose value has these bits.
 pub fn pack<T, F: FnOnce(T) -> usize>(answer: Result<T, Refusal>, bits: F) -> u64
     requires { F.IsAlwaysCallable bits }
@@ -55,7 +48,7 @@ fn reply_bits(reply: Reply) -> usize
         Reply::Draft(d) => d,
         Reply::Done => 0,
         Reply::Number(n) => n,
-        Reply::Was(there) => bit(there),
+        Reply::Was(there) => usize::from(there),
         Reply::Segments(changed) => spell(changed),
     }
 }
@@ -81,11 +74,12 @@ pub fn pack_written(written: Result<usize, Refusal>) -> u64
     pack(written, |n| n)
 }
 
+// A call of its own: that a byte is below 256 is known of a parameter, and not of a field behind a pattern.
 fn byte(b: u8) -> usize
     ensures is { result ≡ b % 256 }
     ensures most { result < 256 }
 {
-    (b as usize) % 256
+    usize::from(b)
 }
 
 // A BBB's three bytes, 0 for none.
@@ -98,29 +92,19 @@ pub fn pack_bbb(bbb: Option<Bbb>) -> usize
     }
 }
 
+#[tactic(auto, unfolding(crate::specs::Packing::basin_number, lines::specs::Bytes::exactly))]
 fn number_of_basin(basin: Basin) -> usize
     ensures is { result ≡ basin_number (paper_basin basin) }
     ensures most { result ≤ 5 }
 {
-    match basin {
-        Basin::Al => 1,
-        Basin::Sl => 2,
-        Basin::Ep => 3,
-        Basin::Cp => 4,
-        Basin::Wp => 5,
-    }
+    basin as usize
 }
 
 fn number_of_class(class: Class) -> usize
     ensures is { result ≡ class_number (paper_class class) }
     ensures most { result ≤ 4 }
 {
-    match class {
-        Class::Cyclone => 1,
-        Class::Internal => 2,
-        Class::Training => 3,
-        Class::Disturbance => 4,
-    }
+    class as usize
 }
 
 fn pack_id(id: StormId) -> usize

@@ -1,17 +1,18 @@
 // What the programs read and print: the time that a bulletin is read under, and the listing of a bulletin.
 #![tactic(auto)]
 
-ghost use Rattle.std.specs.Prelude.{◌≡◌, ◌<◌, ◌≤◌, length, get_or, take, IfOk, OnOk, decimal};
+ghost use Rattle.std.specs.Prelude.{◌≡◌, ◌<◌, ◌≤◌, length, get_or, take, IfOk, OnOk};
 ghost use Rattle.std.specs.Io.KnownBytes.{Appends, Consumes, IsAtEnd};
 ghost use Rattle.lines.specs.Bytes.{digit};
 ghost use Rattle.sets.specs.Held.{Good};
 ghost use Rattle.printing.specs.Asked.{asked_of};
+ghost use Rattle.printing.specs.Answer.{refusal_line};
 
 use bulletin::Head;
-use heading::{Basin, Bbb, StormId};
 use refusal::Refusal;
 use segments::Segment;
 use sets::Places;
+use std::fmt::Display;
 use std::io;
 use std::io::{Read, Write};
 
@@ -74,57 +75,18 @@ pub fn say<W: Write>(out: &mut W, text: &[u8]) -> io::Result<()>
     out.write_all(text)
 }
 
-pub fn say_number<W: Write>(out: &mut W, n: usize) -> io::Result<()>
-    ensures { OnOk result (Appends (W.contents out.old) (W.contents out.new) (decimal n)) }
-{
-    write!(out, "{n}")
-}
-
-// The last two digits of a number.
-fn say_two<W: Write>(out: &mut W, n: usize) -> io::Result<()> {
-    let text = [b'0' + (n / 10 % 10) as u8, b'0' + (n % 10) as u8];
-    say(out, &text)
-}
-
 // `R`, the number and the place.
-pub fn say_refusal<W: Write>(out: &mut W, r: Refusal) -> io::Result<()> {
-    say(out, b"R ")?;
-    say_number(out, r.reason.number())?;
-    say(out, b" ")?;
-    say_number(out, r.place)?;
-    say(out, b"\n")
+pub fn say_refusal<W: Write>(out: &mut W, r: Refusal) -> io::Result<()>
+    ensures { OnOk result (Appends (W.contents out.old) (W.contents out.new) (refusal_line r)) }
+{
+    writeln!(out, "R {} {}", r.reason.number(), r.place)
 }
 
-fn say_bbb<W: Write>(out: &mut W, bbb: Option<Bbb>) -> io::Result<()> {
-    match bbb {
-        None => say(out, b"-"),
-        Some(Bbb(a, b, c)) => {
-            let text = [a, b, c];
-            say(out, &text)
-        }
-    }
-}
-
-fn say_basin<W: Write>(out: &mut W, basin: Basin) -> io::Result<()> {
-    match basin {
-        Basin::Al => say(out, b"AL"),
-        Basin::Sl => say(out, b"SL"),
-        Basin::Ep => say(out, b"EP"),
-        Basin::Cp => say(out, b"CP"),
-        Basin::Wp => say(out, b"WP"),
-    }
-}
-
-fn say_storm<W: Write>(out: &mut W, storm: Option<StormId>) -> io::Result<()> {
-    match storm {
-        None => say(out, b"-"),
-        Some(id) => {
-            let basin = id.basin;
-            say_basin(out, basin)?;
-            say_two(out, id.number)?;
-            say_two(out, id.year / 100)?;
-            say_two(out, id.year)
-        }
+// What there is, or `-`.
+fn say_if_any<W: Write, T: Display + Drop>(out: &mut W, item: Option<T>) -> io::Result<()> {
+    match item {
+        Some(item) => write!(out, "{item}"),
+        None => write!(out, "-"),
     }
 }
 
@@ -138,18 +100,15 @@ fn say_line<W: Write>(out: &mut W, text: &[u8], at: usize) -> io::Result<()> {
 
 // The heading's three fields, BBB or `-`, the identifier, the storm or `-`.
 fn say_head<W: Write>(out: &mut W, text: &[u8], head: Head) -> io::Result<()> {
-    let heading = head.heading;
-    let bbb = heading.bbb;
-    let storm = head.storm;
-    say(out, b"H ")?;
+    write!(out, "H ")?;
     say(out, lines::part(text, 0, 18))?;
-    say(out, b" ")?;
-    say_bbb(out, bbb)?;
-    say(out, b" ")?;
+    write!(out, " ")?;
+    say_if_any(out, head.heading.bbb)?;
+    write!(out, " ")?;
     say_line(out, text, head.identifier)?;
-    say(out, b" ")?;
-    say_storm(out, storm)?;
-    say(out, b"\n")
+    write!(out, " ")?;
+    say_if_any(out, head.storm)?;
+    writeln!(out)
 }
 
 // Takes the line ends out of the first n bytes, and answers how many bytes are left.
@@ -158,10 +117,9 @@ fn strip(block: &mut [u8], n: usize) -> usize
     ensures { result ≤ n }
 {
     let mut kept = 0;
-    let mut i = 0;
-    while i < n {
+    // By index: the bytes that stay move down within the same array.
+    for i in 0..n {
         let b = block[i];
-        i += 1;
         if 13 < b {
             block[kept] = b;
             kept += 1;
@@ -193,34 +151,11 @@ fn say_segment<W: Write>(
     number: usize,
     segment: Segment,
 ) -> io::Result<()> {
-    say(out, b"S ")?;
-    say_number(out, number)?;
-    say(out, b" ")?;
-    say_number(out, segment.purge)?;
-    say(out, b" ")?;
-    say_number(out, segment.count)?;
-    say(out, b" ")?;
+    write!(out, "S {number} {} {} ", segment.purge, segment.count)?;
     if let Ok(content) = reading::read_content(text, segment.start, issue) {
         say_block(out, content.places, segment.purge)?;
     }
-    say(out, b"\n")
-}
-
-fn say_segments<W: Write>(
-    out: &mut W,
-    text: &[u8],
-    issue: usize,
-    held: [Segment; 8],
-    count: usize,
-) -> io::Result<()>
-    requires { count ≤ 8 }
-{
-    let mut i = 0;
-    while i < count {
-        say_segment(out, text, issue, i + 1, held[i])?;
-        i += 1;
-    }
-    Ok(())
+    writeln!(out)
 }
 
 // The listing of a bulletin, read under a year and a month: nothing is printed before the whole answer is known.
@@ -232,7 +167,10 @@ pub fn list<W: Write>(out: &mut W, text: &[u8], year: usize, month: usize) -> io
             let segments = bulletin.segments;
             let held = segments.held;
             say_head(out, text, head)?;
-            say_segments(out, text, head.issue, held, segments.count)
+            for (i, segment) in held[..segments.count].iter().enumerate() {
+                say_segment(out, text, head.issue, i + 1, *segment)?;
+            }
+            Ok(())
         }
     }
 }

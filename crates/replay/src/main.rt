@@ -156,49 +156,23 @@ fn read_opening(input: &[u8], at: usize) -> Option<Source>
 // A write that fails ends the program with its error: no line is done after it, and what was done stays done.
 // The answer to a line that is no call.
 fn say_unknown<W: Write>(to: &mut W) -> io::Result<()> {
-    printing::say(to, b"?\n")
-}
-
-// A letter, a number after a space, and the line's end.
-fn say_value<W: Write>(to: &mut W, letter: &[u8], n: usize) -> io::Result<()> {
-    printing::say(to, letter)?;
-    printing::say(to, b" ")?;
-    printing::say_number(to, n)?;
-    printing::say(to, b"\n")
-}
-
-fn say_next<W: Write>(to: &mut W, n: usize) -> io::Result<()> {
-    printing::say(to, b" ")?;
-    printing::say_number(to, n)
+    writeln!(to, "?")
 }
 
 fn say_changed<W: Write>(to: &mut W, c: Changed) -> io::Result<()> {
-    printing::say(to, b"S")?;
     match c {
-        Changed::Nothing => {}
-        Changed::One(a) => say_next(to, a)?,
-        Changed::Two(a, b) => {
-            say_next(to, a)?;
-            say_next(to, b)?;
-        }
-    }
-    printing::say(to, b"\n")
-}
-
-fn say_was<W: Write>(to: &mut W, there: bool) -> io::Result<()> {
-    if there {
-        printing::say(to, b"V 1\n")
-    } else {
-        printing::say(to, b"V 0\n")
+        Changed::Nothing => writeln!(to, "S"),
+        Changed::One(a) => writeln!(to, "S {a}"),
+        Changed::Two(a, b) => writeln!(to, "S {a} {b}"),
     }
 }
 
 fn say_reply<W: Write>(to: &mut W, reply: Result<Reply, Refusal>) -> io::Result<()> {
     match reply {
-        Ok(Reply::Draft(d)) => say_value(to, b"D", d),
-        Ok(Reply::Done) => printing::say(to, b"K\n"),
-        Ok(Reply::Number(n)) => say_value(to, b"V", n),
-        Ok(Reply::Was(there)) => say_was(to, there),
+        Ok(Reply::Draft(d)) => writeln!(to, "D {d}"),
+        Ok(Reply::Done) => writeln!(to, "K"),
+        Ok(Reply::Number(n)) => writeln!(to, "V {n}"),
+        Ok(Reply::Was(there)) => writeln!(to, "V {}", usize::from(there)),
         Ok(Reply::Segments(c)) => say_changed(to, c),
         Err(r) => printing::say_refusal(to, r),
     }
@@ -206,7 +180,7 @@ fn say_reply<W: Write>(to: &mut W, reply: Result<Reply, Refusal>) -> io::Result<
 
 fn say_verdict<W: Write>(to: &mut W, verdict: Result<(), Refusal>) -> io::Result<()> {
     match verdict {
-        Ok(()) => printing::say(to, b"K\n"),
+        Ok(()) => writeln!(to, "K"),
         Err(r) => printing::say_refusal(to, r),
     }
 }
@@ -321,26 +295,20 @@ fn answer(book: &mut [u8], call: Call) -> Result<Reply, Refusal> {
     }
 }
 
-// Writes a segment into the output, and prints all of it.
-fn write_into<W: Write>(to: &mut W, book: &[u8], s: usize, out: &mut [u8]) -> io::Result<()> {
+// Writes a segment into an output with room for so many bytes, and prints all of it.
+fn write_line<W: Write>(to: &mut W, book: &[u8], s: usize, room: usize) -> io::Result<()> {
+    let mut whole = [0x5Au8; OUTPUT];
+    let Some(out) = whole.get_mut(..room) else {
+        return say_unknown(to);
+    };
     match making::write(book, s, out) {
         Ok(n) => {
-            printing::say(to, b"W ")?;
-            printing::say_number(to, n)?;
-            printing::say(to, b" ")?;
+            write!(to, "W {n} ")?;
             say_hex(to, out)?;
-            printing::say(to, b"\n")
+            writeln!(to)
         }
         Err(r) => printing::say_refusal(to, r),
     }
-}
-
-fn write_line<W: Write>(to: &mut W, book: &[u8], s: usize, room: usize) -> io::Result<()> {
-    if OUTPUT < room {
-        return say_unknown(to);
-    }
-    let mut out = [0x5Au8; 2000];
-    write_into(to, book, s, &mut out[0..room])
 }
 
 // The place and length in the bulletin of a segment that a view gives.
@@ -354,10 +322,8 @@ fn view_line<W: Write>(
     match bulletin::find_segment(text, year, month, n) {
         Err(r) => printing::say_refusal(to, r),
         Ok(segment) => {
-            printing::say(to, b"G ")?;
-            printing::say_number(to, segment.start)?;
-            say_next(to, bulletin::view(text, year, month, n).len())?;
-            printing::say(to, b"\n")
+            let size = bulletin::view(text, year, month, n).len();
+            writeln!(to, "G {} {size}", segment.start)
         }
     }
 }
@@ -382,32 +348,17 @@ fn total(bytes: &[u8]) -> usize
     sum % 4294967291
 }
 
-// Writes the edited bulletin into the output, and prints its length and the sum of the whole output.
-fn write_edited_into<W: Write>(
-    to: &mut W,
-    text: &[u8],
-    book: &[u8],
-    out: &mut [u8],
-) -> io::Result<()>
-    requires { length out.old ≤ 20000 }
-{
+// Writes the edited bulletin into an output with room for so many bytes, and prints its length and the sum of the whole output.
+// The same frame as `write_line`: the two have arrays of their own length, and a function over both would need a closure and a length as parameters.
+fn edited_line<W: Write>(to: &mut W, text: &[u8], book: &[u8], room: usize) -> io::Result<()> {
+    let mut whole = [0x5Au8; EDITED];
+    let Some(out) = whole.get_mut(..room) else {
+        return say_unknown(to);
+    };
     match sending::write_edited(text, book, out) {
-        Ok(n) => {
-            printing::say(to, b"F ")?;
-            printing::say_number(to, n)?;
-            say_next(to, total(out))?;
-            printing::say(to, b"\n")
-        }
+        Ok(n) => writeln!(to, "F {n} {}", total(out)),
         Err(r) => printing::say_refusal(to, r),
     }
-}
-
-fn edited_line<W: Write>(to: &mut W, text: &[u8], book: &[u8], room: usize) -> io::Result<()> {
-    if EDITED < room {
-        return say_unknown(to);
-    }
-    let mut out = [0x5Au8; 20000];
-    write_edited_into(to, text, book, &mut out[0..room])
 }
 
 // ---- lines that are no call, and see the whole buffer
@@ -419,9 +370,9 @@ fn block_line<W: Write>(to: &mut W, buffer: &[u8], i: usize) -> io::Result<()>
     }
     let at = i * 512;
     let end = at + 512;
-    printing::say(to, b"B ")?;
+    write!(to, "B ")?;
     say_hex(to, &buffer[at..end])?;
-    printing::say(to, b"\n")
+    writeln!(to)
 }
 
 fn byte_line<W: Write>(to: &mut W, buffer: &mut [u8], at: usize, b: usize) -> io::Result<()>
@@ -434,7 +385,7 @@ fn byte_line<W: Write>(to: &mut W, buffer: &mut [u8], at: usize, b: usize) -> io
         return say_unknown(to);
     }
     buffer[at] = b as u8;
-    printing::say(to, b"!\n")
+    writeln!(to, "!")
 }
 
 // Answers how much is lent from now on.
@@ -446,7 +397,7 @@ fn lend_line<W: Write>(to: &mut W, lent: usize, n: usize) -> io::Result<usize>
         say_unknown(to)?;
         return Ok(lent);
     }
-    printing::say(to, b"!\n")?;
+    writeln!(to, "!")?;
     Ok(n)
 }
 
@@ -493,7 +444,7 @@ fn act<W: Write>(
         Request::Lend(n) => return lend_line(to, lent, n),
         Request::Block(i) => block_line(to, buffer, i)?,
         Request::Byte(at, b) => byte_line(to, buffer, at, b)?,
-        Request::Sum => say_value(to, b"Z", total(buffer))?,
+        Request::Sum => writeln!(to, "Z {}", total(buffer))?,
     }
     Ok(lent)
 }
@@ -541,7 +492,7 @@ fn text_line<W: Write>(
         after.next = input.len();
         return Ok(after);
     }
-    printing::say(to, b"!\n")?;
+    writeln!(to, "!")?;
     after.start = start;
     after.end = start + n;
     after.next = start + n;

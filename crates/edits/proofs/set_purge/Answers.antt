@@ -1,7 +1,7 @@
 use lib.ListN.{length}
 use Rattle.blocks.specs.Block.{book_length, Bytes}
 use native.Mathlib.Omega.{arith}
-use mathlib.Core.Path.{◌≡◌, refl, ◌∙◌}
+use mathlib.Core.Path.{◌≡◌, refl}
 use Rattle.copies.proofs.Ways.{admitting, ranging, working, load_long, load_block, load_few}
 use Rattle.edits.proofs.Ways.{tested_does, tested_absent, minute_low, purge_none, purge_some}
 use Rattle.std.specs.Prelude.{None, Some, Ok, Err}

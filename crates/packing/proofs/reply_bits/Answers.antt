@@ -15,7 +15,7 @@ returns-in-Number c = rw c.in-Number.is
 
 pub returns-in-Was : goal.returns-in-Was
 unfolding value_bits
-returns-in-Was c = rw c.in-Was.is c.bit.ensures
+returns-in-Was c = rw c.in-Was.is c.from.ensures
 
 pub returns-in-Segments : goal.returns-in-Segments
 unfolding value_bits
