@@ -30,11 +30,11 @@ unfolding text_asked
 asked_is l e = by (eqb l.kind percent) (λ p. rw p (only_is l.numbers l.count (omega arith))) (λ p. rw p)
 
 module _ (l : Line) (e : length l.numbers ≡ 5) where
-  pub asked_one : (eqb l.kind percent && eqb l.count 1) ≡ true → Some (get_or l.numbers 0 0) ≡ text_asked (Some (paper_line l))
-  asked_one t = sym (asked_is l e ∙ rw t)
+  pub text_named : (eqb l.kind percent && eqb l.count 1) ≡ true → Some (get_or l.numbers 0 0) ≡ text_asked (Some (paper_line l))
+  text_named t = sym (asked_is l e ∙ rw t)
 
-  pub asked_none : (eqb l.kind percent && eqb l.count 1) ≡ false → None ≡ text_asked (Some (paper_line l))
-  asked_none t = sym (asked_is l e ∙ rw t)
+  pub text_unnamed : (eqb l.kind percent && eqb l.count 1) ≡ false → None ≡ text_asked (Some (paper_line l))
+  text_unnamed t = sym (asked_is l e ∙ rw t)
 
 module _ (l : Option CallLine) (c : Standing) where
   line_other : text_asked l ≡ None → c ≡ after_line l c
