@@ -31,13 +31,16 @@ pub fn first<F: Fn(&[u8]) -> bool>(text: &[u8], from: usize, is_sought: F) -> Op
     ensures inside { Inside text.now from result }
 {
     let mut at = from;
-    loop {
-        let l = lines::find_line(text, at)?;
+    let found = 'search: loop {
+        let Some(l) = lines::find_line(text, at) else {
+            break 'search None;
+        };
         if is_sought(lines::part(text, at, l.end)) {
-            return Some(l);
+            break 'search Some(l);
         }
         at = l.next;
-    }
+    };
+    found
 }
 
 // The place after the line that starts at `at`; `at` itself, where none does.
