@@ -25,6 +25,7 @@ pub fn closes(line: &[u8]) -> bool
 }
 
 // The first line from `from` on, where a line starts, that passes the test `is_sought`.
+// Document 01 names this form: a labelled break yields the found line, or none.
 pub fn first<F: Fn(&[u8]) -> bool>(text: &[u8], from: usize, is_sought: F) -> Option<Span>
     requires { F.IsAlwaysCallable is_sought }
     ensures is { (p : List ℕ → Bool) → Tests F.Fn is_sought p → found_lines text.now result ≡ from_first p (lines_on text.now from) }
