@@ -8,7 +8,7 @@ ghost use Rattle.sets.specs.Held.{Good};
 ghost use Rattle.printing.specs.Asked.{asked_of};
 
 use bulletin::Head;
-use heading::{Basin, Bbb, StormId};
+use heading::{Basin, Bbb, Storm};
 use refusal::Refusal;
 use segments::Segment;
 use sets::Places;
@@ -115,10 +115,10 @@ fn say_basin<W: Write>(out: &mut W, basin: Basin) -> io::Result<()> {
     }
 }
 
-fn say_storm<W: Write>(out: &mut W, storm: Option<StormId>) -> io::Result<()> {
+fn say_storm<W: Write>(out: &mut W, storm: Storm) -> io::Result<()> {
     match storm {
-        None => say(out, b"-"),
-        Some(id) => {
+        Storm::None => say(out, b"-"),
+        Storm::Found(id) => {
             let basin = id.basin;
             say_basin(out, basin)?;
             say_two(out, id.number)?;
