@@ -1,6 +1,7 @@
 -- The MND block, its storm, and where the segments start: one law for each way out. Assumes nothing.
-use Rattle.heading.specs.declared.StormId.{StormId}
-use Rattle.std.specs.Prelude.{Option, None, Some, Result, Ok, Err, option_map}
+use Rattle.heading.specs.declared.Storm.{Storm}
+use Rattle.heading.specs.declared.Storm.TheVariants as found
+use Rattle.std.specs.Prelude.{Option, None, Some, Result, Ok, Err}
 use Prim.Native.Nat.{ℕ, ◌+◌, ◌-◌, ◌≤◌}
 use native.Mathlib.Omega.{arith}
 use mathlib.Core.Path.{◌≡◌, refl, sym, ap, ◌∙◌}
@@ -21,7 +22,7 @@ use Rattle.lines.proofs.Ends.{end_of, line_at, lines_step, lines_last, found_non
 use Rattle.lines.proofs.Strings.{exactly_is}
 use Rattle.heading.specs.Storm as storm
 use Rattle.heading.specs.Storm.{is_office, storm_form, names_storm, StormName, storm_of}
-use Rattle.heading.specs.Paper.{paper_id, paper_named}
+use Rattle.heading.specs.Paper.{paper_storm, paper_named}
 use Rattle.segments.specs.Search.{from_first, up_to_first, closes}
 use Rattle.segments.specs.Searching.{lines_on, found_lines, LineFrom, Inside}
 use Rattle.bulletin.specs.Mnd.{storm_said, office_storm}
@@ -53,7 +54,7 @@ storm_long line e =
     (λ y. let f : storm.no_storm ≡ storm.refused_storm = rw y at e in apart cc)
 
 module _ (s : List ℕ) (from : ℕ) (f : Option Span) (ef : found_lines s f ≡ from_first office_or_close (lines_on s from)) where
-  pub storm_none : f ≡ None → answer_by (option_map paper_id) (Ok None) ≡ office_storm (from_first is_office (up_to_first closes (lines_on s from)))
+  pub storm_none : f ≡ None → answer_by paper_storm (Ok found.None) ≡ office_storm (from_first is_office (up_to_first closes (lines_on s from)))
   unfolding first_storm
   storm_none q = sym (office_is (lines_on s from) ∙ rw (← ef, q))
 
@@ -72,19 +73,19 @@ module _ (s : List ℕ) (from : ℕ) (f : Option Span) (ef : found_lines s f ≡
     unfolding first_storm
     first_is = office_is (lines_on s from) ∙ rw (← ef, q, lines_step s a (span_inside s l here), body_is, ← et)
 
-    pub storm_closed : t ≡ true → answer_by (option_map paper_id) (Ok None) ≡ office_storm (from_first is_office (up_to_first closes (lines_on s from)))
+    pub storm_closed : t ≡ true → answer_by paper_storm (Ok found.None) ≡ office_storm (from_first is_office (up_to_first closes (lines_on s from)))
     storm_closed y = sym (first_is ∙ rw y)
 
-    module _ (n : t ≡ false) (m : Result (Option StormId) Reason) (em : paper_named m ≡ storm_of line) where
+    module _ (n : t ≡ false) (m : Result Storm Reason) (em : paper_named m ≡ storm_of line) where
       said_is : office_storm (from_first is_office (up_to_first closes (lines_on s from))) ≡ storm_said (line_at s a) (paper_named m)
       said_is = first_is ∙ rw (n, em)
 
-      pub storm_right : (x : Option StormId) → m ≡ Ok x → answer_by (option_map paper_id) (Ok x) ≡ office_storm (from_first is_office (up_to_first closes (lines_on s from)))
-      storm_right x y = sym (said_is ∙ ap (λ (k : Result (Option StormId) Reason). storm_said (line_at s a) (paper_named k)) y ∙ plain x)
+      pub storm_right : (x : Storm) → m ≡ Ok x → answer_by paper_storm (Ok x) ≡ office_storm (from_first is_office (up_to_first closes (lines_on s from)))
+      storm_right x y = sym (said_is ∙ ap (λ (k : Result Storm Reason). storm_said (line_at s a) (paper_named k)) y ∙ plain x)
         where
-          plain : (x : Option StormId) → storm_said (line_at s a) (paper_named (Ok x)) ≡ ok (option_map paper_id x)
-          plain None = refl
-          plain (Some id) = refl
+          plain : (x : Storm) → storm_said (line_at s a) (paper_named (Ok x)) ≡ ok (paper_storm x)
+          plain found.None = refl
+          plain (found.Found id) = refl
 
       module _ (v : Reason) (y : m ≡ Err v) where
         end_is : l.end ≡ a + length line
@@ -97,10 +98,10 @@ module _ (s : List ℕ) (from : ℕ) (f : Option Span) (ef : found_lines s f ≡
         pub storm_room : 8 ≤ l.end
         storm_room = omega (arith, end_is, long)
 
-        pub storm_wrong : v ≡ WrongStorm → (w : Refusal) → w ≡ refusal_for v (l.end - 8) → answer_by (option_map paper_id) (Err w) ≡ office_storm (from_first is_office (up_to_first closes (lines_on s from)))
+        pub storm_wrong : v ≡ WrongStorm → (w : Refusal) → w ≡ refusal_for v (l.end - 8) → answer_by paper_storm (Err w) ≡ office_storm (from_first is_office (up_to_first closes (lines_on s from)))
         storm_wrong ev w ew =
             let e : a + (length line - 8) ≡ l.end - 8 = omega (arith, end_is, long) in
-            rw (ew, ev) (sym (said_is ∙ ap (λ (k : Result (Option StormId) Reason). storm_said (line_at s a) (paper_named k)) y ∙ rw (body_is, e)))
+            rw (ew, ev) (sym (said_is ∙ ap (λ (k : Result Storm Reason). storm_said (line_at s a) (paper_named k)) y ∙ rw (body_is, e)))
 
 -- ---- line 3
 module _ (s : List ℕ) (third : ℕ) (past : List Line) where

@@ -1,6 +1,6 @@
 -- The whole bulletin: the order of reading, part after part. Assumes nothing.
-use Rattle.heading.specs.declared.StormId.{StormId}
-use Rattle.std.specs.Prelude.{Option, Result, Ok, Err, IfOk, option_map}
+use Rattle.heading.specs.declared.Storm.{Storm}
+use Rattle.std.specs.Prelude.{Option, Result, Ok, Err, IfOk}
 use Prim.Native.Nat.{ℕ, zero, suc}
 use native.Mathlib.Omega.{arith}
 use mathlib.Core.Path.{◌≡◌, refl, sym, ap, ◌∙◌}
@@ -11,7 +11,7 @@ use Rattle.refusal.specs.declared.Reason.TheVariants.{NoSegment}
 use Rattle.refusal.specs.Answer.{Answer, ok, no, refused, refusal_for, and_then, answer_by, answer_of}
 use Rattle.refusal.specs.declared.Refusal.{Refusal}
 use Rattle.lines.specs.Lines.{Line, blank}
-use Rattle.heading.specs.Paper.{paper_heading, paper_id}
+use Rattle.heading.specs.Paper.{paper_heading, paper_storm}
 use Rattle.heading.specs.Storm.{is_office, StormName}
 use Rattle.segments.specs.Search.{from_first, up_to_first, after_first, closes}
 use Rattle.segments.specs.Searching.{lines_on}
@@ -78,8 +78,8 @@ module _ (s : List ℕ) (from : ℕ) (h : Head) (l : Result Segments Refusal) (e
         }
 
 -- ---- the storm and the first place
-module _ (s : List ℕ) (t : Top) (mnd : ℕ) (em : lines_on s mnd ≡ after_first blank (lines_on s t.third)) (x : Result (Option StormId) Refusal)
-    (ex : answer_by (option_map paper_id) x ≡ office_storm (from_first is_office (up_to_first closes (lines_on s mnd)))) where
+module _ (s : List ℕ) (t : Top) (mnd : ℕ) (em : lines_on s mnd ≡ after_first blank (lines_on s t.third)) (x : Result Storm Refusal)
+    (ex : answer_by paper_storm x ≡ office_storm (from_first is_office (up_to_first closes (lines_on s mnd)))) where
   -- what follows the storm, and what follows the place
   abbrev after_place : Option StormName → Answer (List Line) → Answer Report
   after_place storm y = and_then y (λ ls. and_then (seen_of (segments_from most s t.issue ls)) (some_seen (length s) (below_top t storm)))
@@ -87,7 +87,7 @@ module _ (s : List ℕ) (t : Top) (mnd : ℕ) (em : lines_on s mnd ≡ after_fir
   abbrev after_storm : List Line → Option StormName → Answer Report
   after_storm ls storm = after_place storm (from_line3 (after_first closes ls) (length s) (lines_on s t.third))
 
-  below_is : below_of s t ≡ and_then (answer_by (option_map paper_id) x) (after_storm (lines_on s mnd))
+  below_is : below_of s t ≡ and_then (answer_by paper_storm x) (after_storm (lines_on s mnd))
   unfolding below_of
   below_is = rw (ex, em)
 
@@ -95,19 +95,19 @@ module _ (s : List ℕ) (t : Top) (mnd : ℕ) (em : lines_on s mnd ≡ after_fir
   unfolding and_then
   below_storm w q ks d = refused_answers s (below_of s t) ks d w (sym (below_is ∙ rw q))
 
-  module _ (storm : Option StormId) (q : x ≡ Ok storm) (y : Result ℕ Refusal)
+  module _ (storm : Storm) (q : x ≡ Ok storm) (y : Result ℕ Refusal)
       (ey : answer_by (lines_on s) y ≡ from_line3 (after_first closes (lines_on s mnd)) (length s) (lines_on s t.third)) where
-    placed : below_of s t ≡ after_place (option_map paper_id storm) (answer_by (lines_on s) y)
+    placed : below_of s t ≡ after_place (paper_storm storm) (answer_by (lines_on s) y)
     unfolding and_then
-    placed = below_is ∙ ap (λ (k : Result (Option StormId) Refusal). and_then (answer_by (option_map paper_id) k) (after_storm (lines_on s mnd))) q ∙ rw (← ey)
+    placed = below_is ∙ ap (λ (k : Result Storm Refusal). and_then (answer_by paper_storm k) (after_storm (lines_on s mnd))) q ∙ rw (← ey)
 
     pub below_place : (w : Refusal) → y ≡ Err w → (ks d : List ℕ) → Answers s (below_of s t) ks d (Err w)
     unfolding and_then
-    below_place w z ks d = refused_answers s (below_of s t) ks d w (sym (placed ∙ ap (λ (k : Result ℕ Refusal). after_place (option_map paper_id storm) (answer_by (lines_on s) k)) z))
+    below_place w z ks d = refused_answers s (below_of s t) ks d w (sym (placed ∙ ap (λ (k : Result ℕ Refusal). after_place (paper_storm storm) (answer_by (lines_on s) k)) z))
 
     pub below_listed : (a : ℕ) → y ≡ Ok a → (r : Result Bulletin Refusal) (ks d : List ℕ) → Answers s (listed_of s a (head_of t storm)) ks d r → Answers s (below_of s t) ks d r
     unfolding and_then listed_of
-    below_listed a z r ks d e = answers_as s (listed_of s a (head_of t storm)) (below_of s t) ks d r (sym (placed ∙ ap (λ (k : Result ℕ Refusal). after_place (option_map paper_id storm) (answer_by (lines_on s) k)) z)) e
+    below_listed a z r ks d e = answers_as s (listed_of s a (head_of t storm)) (below_of s t) ks d r (sym (placed ∙ ap (λ (k : Result ℕ Refusal). after_place (paper_storm storm) (answer_by (lines_on s) k)) z)) e
 
 -- ---- the order, cut in three: the text, the top, and what is below
 then_then : {A B C : Type 0} (a : Answer A) (f : A → Answer B) (g : B → Answer C) → and_then (and_then a f) g ≡ and_then a (λ x. and_then (f x) g)

@@ -1,5 +1,5 @@
 -- Serves the code: the rest of the order of reading, from the storm on and from the segments on, and what a function that reads on from there promises.
-use Rattle.heading.specs.declared.StormId.{StormId}
+use Rattle.heading.specs.declared.Storm.{Storm}
 use Rattle.std.specs.Prelude.{ℕ, ◌≡◌, List, [], ◌∷◌, length}
 use Rattle.std.specs.Prelude.{Option, Result, Ok, IfOk}
 use Rattle.refusal.specs.declared.Reason.TheVariants.{NoSegment}
@@ -29,7 +29,7 @@ some_seen stop report (g ∷ gs) = ok (report (g ∷ gs))
 unfoldable pub listed_of : List ℕ → ℕ → Head → Answer Report
 listed_of text from h = and_then (seen_from most text h.issue from) (some_seen (length text) (report_of h))
 
-abbrev pub head_of : Top → Option StormId → Head
+abbrev pub head_of : Top → Storm → Head
 head_of t storm = record { heading = t.heading; identifier = t.identifier; issue = t.issue; storm = storm }
 
 abbrev pub below_top : Top → Option StormName → List Segment → Report

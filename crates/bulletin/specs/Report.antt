@@ -1,11 +1,11 @@
 -- The reader's answer: what a bulletin says, with each segment's places in the text, purge minute and count.
-use Rattle.std.specs.Prelude.{Option, Result, Ok, option_map}
+use Rattle.std.specs.Prelude.{Option, Result, Ok}
 use Rattle.std.specs.Prelude.{ℕ, ◌≡◌, List, [], map}
 use Rattle.refusal.specs.Answer.{Answer, ok, no, answer_by}
 use Rattle.refusal.specs.declared.Refusal.{Refusal}
 use Rattle.heading.specs.Heading.{Heading}
 use Rattle.heading.specs.Storm.{StormName}
-use Rattle.heading.specs.Paper.{paper_heading, paper_id}
+use Rattle.heading.specs.Paper.{paper_heading, paper_storm}
 use Rattle.bulletin.specs.Bulletin as rule
 use Rattle.segments.specs.Seen.{seen, segments_for, segments_held}
 use Rattle.segments.specs.declared.Segment.{Segment}
@@ -25,7 +25,7 @@ reported (no number place) = no number place
 
 -- ---- the code's answer
 abbrev pub report_of : Head → List Segment → Report
-report_of h gs = record { heading = paper_heading h.heading; identifier = h.identifier; issue = h.issue; storm = option_map paper_id h.storm; segments = gs }
+report_of h gs = record { heading = paper_heading h.heading; identifier = h.identifier; issue = h.issue; storm = paper_storm h.storm; segments = gs }
 
 -- all that a bulletin says
 abbrev pub report_said : Bulletin → Report

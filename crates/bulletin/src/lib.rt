@@ -1,7 +1,7 @@
 // A whole bulletin: document 01, "Text and lines" and "Segments and place code blocks".
 #![tactic(auto)]
 
-ghost use Rattle.std.specs.Prelude.{◌≡◌, length, ◌≤◌, option_map, IfOk};
+ghost use Rattle.std.specs.Prelude.{◌≡◌, length, ◌≤◌, IfOk};
 ghost use Rattle.bulletin.specs.Starts.{from_line3};
 ghost use Rattle.segments.specs.Search.{from_first, up_to_first, after_first, closes};
 ghost use Rattle.bulletin.specs.Mnd.{office_storm};
@@ -12,27 +12,27 @@ ghost use Rattle.bulletin.specs.Kept.{KeepsPlaces};
 ghost use Rattle.segments.specs.Searching.{lines_on};
 ghost use Rattle.segments.specs.Seen.{Sized};
 ghost use Rattle.bulletin.specs.Front.{text_checked, above_of, second_of, top_of};
-ghost use Rattle.heading.specs.Paper.{paper_heading, paper_id};
+ghost use Rattle.heading.specs.Paper.{paper_heading, paper_storm};
 ghost use Rattle.bulletin.specs.Below.{listed_of, below_of, Answers};
 ghost use Rattle.heading.specs.Storm.{is_office};
 ghost use Rattle.refusal.specs.Answer.{answer_by, answer_of};
 
 use calendar::Date;
-use heading::{Heading, StormId};
+use heading::{Heading, Storm};
 use refusal::{Reason, Refusal};
 use segments::{Segment, Segments};
 
 // The storm of the MND block whose lines start at `from`.
-fn read_storm(text: &[u8], from: usize) -> Result<Option<StormId>, Refusal>
-    ensures { answer_by (option_map paper_id) result ≡ office_storm (from_first is_office (up_to_first closes (lines_on text.now from))) }
+fn read_storm(text: &[u8], from: usize) -> Result<Storm, Refusal>
+    ensures { answer_by paper_storm result ≡ office_storm (from_first is_office (up_to_first closes (lines_on text.now from))) }
 {
     let is_sought = |line: &[u8]| segments::closes(line) || heading::is_office(line);
     let Some(l) = segments::first(text, from, is_sought) else {
-        return Ok(None);
+        return Ok(Storm::None);
     };
     let line = lines::part(text, l.start, l.end);
     if segments::closes(line) {
-        return Ok(None);
+        return Ok(Storm::None);
     }
     match heading::read_storm(line) {
         Ok(storm) => Ok(storm),
@@ -119,7 +119,7 @@ pub struct Head {
     pub heading: Heading,
     pub identifier: usize,
     pub issue: usize,
-    pub storm: Option<StormId>,
+    pub storm: Storm,
 }
 
 // A bulletin that was read: its head and its segments.

@@ -23,7 +23,8 @@ use Rattle.layout.proofs.Parts.{sound_parts, draft_cases}
 use Rattle.layout.proofs.Said.{drafts_length, draft_of_lem, segment_of_lem, segment_past, copies_none, copies_one, copies_two}
 use Rattle.layout.proofs.Shown.{second_needs}
 use Rattle.copies.specs.Admission.{is_open, exists, admission}
-use Rattle.copies.specs.Copies.{index_of, block_in, copy_block, Admitted}
+use Rattle.copies.specs.Copies.{index_of, block_in, copy_block, paper_copy, Admitted}
+use Rattle.copies.specs.declared.Found.TheVariants as found
 
 -- ---- an open draft
 module _ (l : List ℕ) where
@@ -149,7 +150,7 @@ module _ (l : List ℕ) where
 
   -- the ways out
   module _ (d s : ℕ) (a : Admitted l d s) (first : ℕ) (is-first : first ≡ get_or l (4 * d + 5) 0) where
-    pub find_first : first ≡ s → (Some (2 * d + 7)) ≡ copy_block l d s
+    pub find_first : first ≡ s → paper_copy (found.Copy (2 * d + 7)) ≡ copy_block l d s
     find_first e =
         let n : 2 * d + 7 ≡ 7 + 2 * d + 0 = omega arith in
         ap Some n ∙ sym (copy_block_is d s a ∙ rw (eq-eqb s (get_or l (4 * d + 5) 0) (sym e ∙ is-first)))
@@ -158,11 +159,11 @@ module _ (l : List ℕ) where
       no : s ≡ get_or l (4 * d + 5) 0 → ⊥
       no q = other (is-first ∙ sym q)
 
-      pub find_second : second ≡ s → (Some (2 * d + 8)) ≡ copy_block l d s
+      pub find_second : second ≡ s → paper_copy (found.Copy (2 * d + 8)) ≡ copy_block l d s
       find_second e =
           let n : 2 * d + 8 ≡ 7 + 2 * d + 1 = omega arith in
           ap Some n ∙ sym (copy_block_is d s a ∙ rw (ne_eqb s (get_or l (4 * d + 5) 0) no, eq-eqb s (get_or l (4 * d + 6) 0) (sym e ∙ is-second)))
 
-      pub find_none : (second ≡ s → ⊥) → None ≡ copy_block l d s
+      pub find_none : (second ≡ s → ⊥) → paper_copy found.NotTaken ≡ copy_block l d s
       find_none e =
           sym (copy_block_is d s a ∙ rw (ne_eqb s (get_or l (4 * d + 5) 0) no, ne_eqb s (get_or l (4 * d + 6) 0) (λ q. e (is-second ∙ sym q))))

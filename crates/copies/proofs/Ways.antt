@@ -1,5 +1,5 @@
 -- The ways out of a work on a draft's copy that the calls share: it is refused, or there is a copy. Assumes nothing.
-use Rattle.std.specs.Prelude.{Option, None, Some, Result, Ok, Err}
+use Rattle.std.specs.Prelude.{Result, Ok, Err}
 use Prim.Native.Nat.{ℕ, ◌≤◌, ◌<◌}
 use native.Mathlib.Omega.{arith}
 use mathlib.Core.Path.{◌≡◌, sym, ap, ◌∙◌}
@@ -20,7 +20,9 @@ use Rattle.steps.specs.Calls.{Edit, Work, editing, on, in_range}
 use Rattle.steps.proofs.Leaving.{edited}
 use Rattle.layout.specs.Rule.{on_bytes, Does}
 use Rattle.copies.specs.Admission.{admission}
-use Rattle.copies.specs.Copies.{copy_block, Admitted}
+use Rattle.copies.specs.Copies.{copy_block, paper_copy, Admitted}
+use Rattle.copies.specs.declared.Found.{Found}
+use Rattle.copies.specs.declared.Found.TheVariants as found
 use Rattle.copies.proofs.Works.{base_of}
 use Rattle.copies.proofs.Admits.{Works, works_at, absent_at, refused_at_lem, admitted_at, ranged_at}
 
@@ -43,11 +45,11 @@ module _ (l : List ℕ) (y : Bytes l) (d s : ℕ) (v : Result Unit Refusal) wher
     in_book_lem = admitting l d s v t is says
 
     -- there is a copy
-    module _ (f : Option ℕ) (is_at : f ≡ copy_block l d s) where
-      pub working : (k : ℕ) → f ≡ Some k → Works l d s k
-      working k q = works_at l d s k (base_of l y in_book_lem.sound) in_book_lem (sym is_at ∙ q)
+    module _ (f : Found) (is_at : paper_copy f ≡ copy_block l d s) where
+      pub working : (k : ℕ) → f ≡ found.Copy k → Works l d s k
+      working k q = works_at l d s k (base_of l y in_book_lem.sound) in_book_lem (sym is_at ∙ ap paper_copy q)
 
-      module _ (k : ℕ) (q : f ≡ Some k) where
+      module _ (k : ℕ) (q : f ≡ found.Copy k) where
         pub load_long : length l ≡ book_length
         load_long = (working k q).long
 
@@ -58,10 +60,10 @@ module _ (l : List ℕ) (y : Bytes l) (d s : ℕ) (v : Result Unit Refusal) wher
         load_few = (working k q).few
 
       -- there is none
-      module _ (e : Edit) (r : in_range (editing e) ≡ true) (none : f ≡ None) (a : Refusal) (answers : a ≡ refusal_for NotTaken 0) where
+      module _ (e : Edit) (r : in_range (editing e) ≡ true) (none : f ≡ found.NotTaken) (a : Refusal) (answers : a ≡ refusal_for NotTaken 0) where
         pub absent_does : Does l l (on d s (editing e)) (Err a)
         absent_does =
-            let same = absent_at l d s e (base_of l y in_book_lem.sound) in_book_lem r (sym is_at ∙ none) in
+            let same = absent_at l d s e (base_of l y in_book_lem.sound) in_book_lem r (sym is_at ∙ ap paper_copy none) in
             record { answer = rw answers same.answer; left = same.bytes }
 
 -- ---- a work on the copy, by the content that was loaded

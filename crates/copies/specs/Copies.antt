@@ -6,6 +6,8 @@ use Rattle.steps.specs.Book.{Copy, at, draft_at}
 use Rattle.layout.specs.Layout.{first_taken, copies_of, book_of}
 use Rattle.layout.specs.Tests.{is_sound}
 use Rattle.copies.specs.Admission.{is_open, exists}
+use Rattle.copies.specs.declared.Found.{Found}
+use Rattle.copies.specs.declared.Found.TheVariants as found
 
 -- the index of the copy of segment s, counted from 0
 abbrev pub one_on : Option ℕ → Option ℕ
@@ -24,6 +26,10 @@ block_in d (Some n) = Some (first_taken d + n)
 -- the block of draft d's copy of segment s
 unfoldable pub copy_block : List ℕ → ℕ → ℕ → Option ℕ
 copy_block l d s = block_in d (index_of s (copies_of (draft_at (book_of l).drafts d)))
+
+abbrev pub paper_copy : Found → Option ℕ
+paper_copy (found.Copy k) = Some k
+paper_copy found.NotTaken = None
 
 -- what an accepted work of draft d on segment s may rely on
 pub record Admitted (l : List ℕ) (d s : ℕ) : Type 0 where

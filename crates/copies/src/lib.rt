@@ -8,9 +8,16 @@ ghost use Rattle.blocks.specs.Block.{book_length};
 ghost use Rattle.steps.specs.Book.{at, draft_at};
 ghost use Rattle.layout.specs.Layout.{book_of};
 ghost use Rattle.copies.specs.Admission.{is_open, exists, admission};
-ghost use Rattle.copies.specs.Copies.{copy_block, Admitted};
+ghost use Rattle.copies.specs.Copies.{paper_copy, copy_block, Admitted};
 
 use refusal::{Reason, Refusal};
+
+// Where a draft's copy of a segment stands: the block's number. Document 01 names this form: only a taken segment has a copy to work on.
+#[derive(Clone, Copy)]
+pub enum Found {
+    Copy(usize),
+    NotTaken,
+}
 
 // Whether a draft is one of the four, and open.
 pub fn is_open(book: &[u8], d: usize) -> bool
@@ -62,17 +69,17 @@ pub fn admit(book: &[u8], d: usize, in_range: bool, s: usize) -> Result<(), Refu
 }
 
 // The block of a draft's copy of a segment.
-pub fn find_copy(book: &[u8], d: usize, s: usize) -> Option<usize>
+pub fn find_copy(book: &[u8], d: usize, s: usize) -> Found
     requires { Admitted book.now d s }
-    ensures { result ≡ copy_block book.now d s }
+    ensures { paper_copy result ≡ copy_block book.now d s }
 {
     let first = blocks::size(book[4 * d + 5]);
     if first == s {
-        return Some(2 * d + 7);
+        return Found::Copy(2 * d + 7);
     }
     let second = blocks::size(book[4 * d + 6]);
     if second == s {
-        return Some(2 * d + 8);
+        return Found::Copy(2 * d + 8);
     }
-    None
+    Found::NotTaken
 }

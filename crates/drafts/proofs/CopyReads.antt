@@ -1,5 +1,5 @@
 -- The ways out of a read of a draft's copy. Assumes nothing.
-use Rattle.std.specs.Prelude.{Option, None, Result, Ok, Err}
+use Rattle.std.specs.Prelude.{Result, Ok, Err}
 use Prim.Native.Nat.{ℕ, ◌≤◌, ◌<◌}
 use native.Mathlib.Omega.{arith}
 use mathlib.Core.Path.{◌≡◌, refl, sym, ap, ◌∙◌}
@@ -21,7 +21,9 @@ use Rattle.steps.proofs.Order.{index_past, index_there}
 use Rattle.layout.specs.Rule.{on_bytes, value_said}
 use Rattle.layout.specs.declared.Reply.TheVariants as reply
 use Rattle.copies.specs.Admission.{admission}
-use Rattle.copies.specs.Copies.{copy_block}
+use Rattle.copies.specs.Copies.{copy_block, paper_copy}
+use Rattle.copies.specs.declared.Found.{Found}
+use Rattle.copies.specs.declared.Found.TheVariants as found
 use Rattle.copies.proofs.Admits.{Works}
 use Rattle.copies.proofs.Ways.{refused_does, absent_does, answer_at, count_is}
 
@@ -30,8 +32,8 @@ module _ (l : List ℕ) (y : Bytes l) (d s : ℕ) (v : Result Unit Refusal) (e :
   pub refused_read : (r : Refusal) → v ≡ Err r → answer_of v ≡ admission l d (in_range (editing e)) s → answer_by value_said (Err r) ≡ (on_bytes l (on d s (editing e))).0
   refused_read r is says = (refused_does l y d s v (editing e) r is says).answer
 
-  pub absent_read : (t : Bool) → v ≡ Ok tt → answer_of v ≡ admission l d t s → (f : Option ℕ) → f ≡ copy_block l d s → in_range (editing e) ≡ true
-      → f ≡ None → (a : Refusal) → a ≡ refusal_for NotTaken 0 → answer_by value_said (Err a) ≡ (on_bytes l (on d s (editing e))).0
+  pub absent_read : (t : Bool) → v ≡ Ok tt → answer_of v ≡ admission l d t s → (f : Found) → paper_copy f ≡ copy_block l d s → in_range (editing e) ≡ true
+      → f ≡ found.NotTaken → (a : Refusal) → a ≡ refusal_for NotTaken 0 → answer_by value_said (Err a) ≡ (on_bytes l (on d s (editing e))).0
   absent_read t is says f is_at r none a answers = (absent_does l y d s v t is says f is_at e r none a answers).answer
 
 -- ---- by the content that was loaded

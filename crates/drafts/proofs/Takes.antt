@@ -1,5 +1,5 @@
 -- How many segments a draft has taken, and the ways out of `take`. Assumes nothing.
-use Rattle.std.specs.Prelude.{Option, None, Some, is_some, Result, Ok, Err}
+use Rattle.std.specs.Prelude.{Option, None, Some, Result, Ok, Err}
 use Prim.Native.Nat.{ℕ, zero, suc, ◌+◌, ◌*◌, ◌≤◌, ◌<◌}
 use native.Mathlib.Omega.{arith}
 use mathlib.Core.Path.{◌≡◌, refl, sym, ap, ap₂, ◌∙◌}
@@ -28,7 +28,9 @@ use Rattle.layout.proofs.Rules.{does_step, does_refused}
 use Rattle.layout.proofs.Said.{draft_of_lem, segment_past, copies_none, copies_one, copies_two}
 use Rattle.layout.proofs.Shown.{draft_copies}
 use Rattle.copies.specs.Admission.{exists, admission}
-use Rattle.copies.specs.Copies.{index_of, block_in, copy_block, Admitted}
+use Rattle.copies.specs.Copies.{index_of, block_in, copy_block, paper_copy, Admitted}
+use Rattle.copies.specs.declared.Found.{Found}
+use Rattle.copies.specs.declared.Found.TheVariants as found
 use Rattle.copies.proofs.Copies.{index_some, index_none}
 use Rattle.copies.proofs.Finds.{open_zero, there_zero}
 use Rattle.copies.proofs.Works.{Base, base_of}
@@ -119,14 +121,6 @@ module _ (l : List ℕ) (base : Base l) (long : length l ≡ book_length) (d s :
       (on_taken (book_of l) d o.ks o.stale o.there s c there e (lt-ltb (length o.ks) 2 h)) refl q
 
 -- ---- the ways out
-some_there : (o : Option ℕ) → is_some o ≡ true → (k : ℕ) × (o ≡ Some k)
-some_there None e = apart cc
-some_there (Some k) e = (k, refl)
-
-none_there : (o : Option ℕ) → is_some o ≡ false → o ≡ None
-none_there None e = refl
-none_there (Some k) e = apart cc
-
 -- the copy that was sought
 block_some : (d k : ℕ) (i : Option ℕ) → block_in d i ≡ Some k → (n : ℕ) × (i ≡ Some n)
 block_some d k None e = apart cc
@@ -137,7 +131,7 @@ block_none d None e = refl
 block_none d (Some n) e = apart cc
 
 module _ (l : List ℕ) (y : Bytes l) (d s : ℕ) (v : Result Unit Refusal) (is : v ≡ Ok tt) (says : answer_of v ≡ admission l d true s)
-    (f : Option ℕ) (is_at : f ≡ copy_block l d s) where
+    (f : Found) (is_at : paper_copy f ≡ copy_block l d s) where
   a : Admitted l d s
   a = take_admitted l d s v is says
 
@@ -150,24 +144,20 @@ module _ (l : List ℕ) (y : Bytes l) (d s : ℕ) (v : Result Unit Refusal) (is 
   c : (c : Content) × (at (book_of l).segments s ≡ Some c)
   c = some_of (at (book_of l).segments s) a.there
 
-  sought : f ≡ block_in d (index_of s o.ks)
+  sought : paper_copy f ≡ block_in d (index_of s o.ks)
   unfolding copy_block
   sought = is_at ∙ ap (λ (x : Draft). block_in d (index_of s (copies_of x))) o.there
 
   -- 17
-  pub take_again : (t : Bool) (w : Refusal) → t ≡ is_some f → t ≡ true → w ≡ refusal_for TakenAlready 0 → Does l l (on d s taking) (Err w)
-  take_again t w et y e =
-      let k = some_there f (sym et ∙ y) in
-      let b = block_some d k.0 (index_of s o.ks) (sym sought ∙ k.1) in
+  pub take_again : (k : ℕ) (w : Refusal) → f ≡ found.Copy k → w ≡ refusal_for TakenAlready 0 → Does l l (on d s taking) (Err w)
+  take_again k w q e =
+      let b = block_some d k (index_of s o.ks) (sym sought ∙ ap paper_copy q) in
       let i = index_some s o.ks b.0 b.1 in
       rw e (copy_there l base a.long d s o c.0 c.1 i.named)
 
-  module _ (t : Bool) (et : t ≡ is_some f) (z : t ≡ false) (n : ℕ) (is-n : n ≡ length (copies_of (draft_at (book_of l).drafts d))) where
-    q : f ≡ None
-    q = none_there f (sym et ∙ z)
-
+  module _ (q : f ≡ found.NotTaken) (n : ℕ) (is-n : n ≡ length (copies_of (draft_at (book_of l).drafts d))) where
     absent : has s o.ks ≡ false
-    absent = copy_none s o.ks (index_none s o.ks (block_none d (index_of s o.ks) (sym sought ∙ q)))
+    absent = copy_none s o.ks (index_none s o.ks (block_none d (index_of s o.ks) (sym sought ∙ ap paper_copy q)))
 
     count : n ≡ length o.ks
     count = is-n ∙ ap (λ (x : Draft). length (copies_of x)) o.there

@@ -12,6 +12,7 @@ ghost use Rattle.layout.specs.Rule.{on_bytes, value_said, Does};
 ghost use Rattle.layout.specs.Tests.{is_sound};
 ghost use Rattle.steps.specs.Calls as calls;
 
+use copies::Found;
 use layout::Reply;
 use refusal::{Reason, Refusal};
 
@@ -97,9 +98,9 @@ pub fn take(book: &mut [u8], d: usize, s: usize) -> Result<Reply, Refusal>
     ensures { Does book.old book.new (on d s taking) result }
 {
     copies::admit(book, d, true, s)?;
-    if copies::find_copy(book, d, s).is_some() {
+    let Found::NotTaken = copies::find_copy(book, d, s) else {
         return Err(Reason::TakenAlready.into());
-    }
+    };
     let n = count_taken(book, d);
     if 2 <= n {
         return Err(Reason::TwoTaken.into());
@@ -115,7 +116,9 @@ pub fn read_purge(book: &[u8], d: usize, s: usize) -> Result<Reply, Refusal>
     ensures { answer_by value_said result ≡ (on_bytes book.now (on d s (editing read_purge))).0 }
 {
     copies::admit(book, d, true, s)?;
-    let k = copies::find_copy(book, d, s).ok_or(Reason::NotTaken)?;
+    let Found::Copy(k) = copies::find_copy(book, d, s) else {
+        return Err(Reason::NotTaken.into());
+    };
     let h = blocks::load(blocks::as_book(book), k);
     Ok(Reply::Number(h.purge as usize))
 }
@@ -125,7 +128,9 @@ pub fn read_count(book: &[u8], d: usize, s: usize) -> Result<Reply, Refusal>
     ensures { answer_by value_said result ≡ (on_bytes book.now (on d s (editing read_count))).0 }
 {
     copies::admit(book, d, true, s)?;
-    let k = copies::find_copy(book, d, s).ok_or(Reason::NotTaken)?;
+    let Found::Copy(k) = copies::find_copy(book, d, s) else {
+        return Err(Reason::NotTaken.into());
+    };
     let h = blocks::load(blocks::as_book(book), k);
     Ok(Reply::Number(h.count))
 }
@@ -135,7 +140,9 @@ pub fn read_place(book: &[u8], d: usize, s: usize, i: usize) -> Result<Reply, Re
     ensures { answer_by value_said result ≡ (on_bytes book.now (on d s (editing (read_place i)))).0 }
 {
     copies::admit(book, d, true, s)?;
-    let k = copies::find_copy(book, d, s).ok_or(Reason::NotTaken)?;
+    let Found::Copy(k) = copies::find_copy(book, d, s) else {
+        return Err(Reason::NotTaken.into());
+    };
     let h = blocks::load(blocks::as_book(book), k);
     if h.count <= i {
         return Err(Reason::OutOfRange.into());

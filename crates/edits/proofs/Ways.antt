@@ -31,7 +31,9 @@ use Rattle.layout.specs.Rule.{value_said, Does}
 use Rattle.layout.specs.declared.Reply.{Reply}
 use Rattle.layout.specs.declared.Reply.TheVariants as reply
 use Rattle.copies.specs.Admission.{admission}
-use Rattle.copies.specs.Copies.{copy_block}
+use Rattle.copies.specs.Copies.{copy_block, paper_copy}
+use Rattle.copies.specs.declared.Found.{Found}
+use Rattle.copies.specs.declared.Found.TheVariants as found
 use Rattle.copies.proofs.Admits.{Works}
 use Rattle.copies.proofs.Ways.{ranging, refused_does, absent_does, answer_at, count_is}
 
@@ -51,7 +53,7 @@ module _ (l : List ℕ) (y : Bytes l) (d s : ℕ) (v : Result Unit Refusal) (t :
     pub in_range_lem : in_range (editing e) ≡ true
     in_range_lem = sym tests ∙ ranging l d s v t is says
 
-    pub tested_absent : (f : Option ℕ) → f ≡ copy_block l d s → f ≡ None → (a : Refusal) → a ≡ refusal_for NotTaken 0
+    pub tested_absent : (f : Found) → paper_copy f ≡ copy_block l d s → f ≡ found.NotTaken → (a : Refusal) → a ≡ refusal_for NotTaken 0
         → Does l l (on d s (editing e)) (Err a)
     tested_absent f is_at q a answers = absent_does l y d s v t is says f is_at e in_range_lem q a answers
 

@@ -14,6 +14,7 @@ ghost use Rattle.layout.specs.Rule.{Does};
 
 use blocks::Held;
 use calendar::Stamp;
+use copies::Found;
 use layout::Reply;
 use refusal::{Reason, Refusal};
 
@@ -85,7 +86,9 @@ pub fn set_purge(book: &mut [u8], d: usize, s: usize, time: Stamp) -> Result<Rep
     ensures { Does book.old book.new (on d s (editing (set_purge time))) result }
 {
     copies::admit(book, d, calendar::is_time(time), s)?;
-    let k = copies::find_copy(book, d, s).ok_or(Reason::NotTaken)?;
+    let Found::Copy(k) = copies::find_copy(book, d, s) else {
+        return Err(Reason::NotTaken.into());
+    };
     let h = blocks::load(blocks::as_book(book), k);
     let issue = blocks::number_at(book, 0) as usize;
     let minute = calendar::purge_of(issue, time).ok_or(Reason::WrongTime)?;
@@ -102,7 +105,9 @@ pub fn add(book: &mut [u8], d: usize, s: usize, p: usize) -> Result<Reply, Refus
     ensures { Does book.old book.new (on d s (editing (add p))) result }
 {
     copies::admit(book, d, p < 1352000, s)?;
-    let k = copies::find_copy(book, d, s).ok_or(Reason::NotTaken)?;
+    let Found::Copy(k) = copies::find_copy(book, d, s) else {
+        return Err(Reason::NotTaken.into());
+    };
     let h = blocks::load(blocks::as_book(book), k);
     let place = p as u32;
     if has_place(&h, place) {
@@ -121,7 +126,9 @@ pub fn remove(book: &mut [u8], d: usize, s: usize, p: usize) -> Result<Reply, Re
     ensures { Does book.old book.new (on d s (editing (remove p))) result }
 {
     copies::admit(book, d, p < 1352000, s)?;
-    let k = copies::find_copy(book, d, s).ok_or(Reason::NotTaken)?;
+    let Found::Copy(k) = copies::find_copy(book, d, s) else {
+        return Err(Reason::NotTaken.into());
+    };
     let h = blocks::load(blocks::as_book(book), k);
     let place = p as u32;
     if !has_place(&h, place) {

@@ -9,7 +9,7 @@ use lib.Dec.{eqb}
 use Rattle.laws.proofs.Tests.{apart}
 use Rattle.heading.specs.Heading as heading
 use Rattle.heading.specs.Storm.{ClassName, cyclone, internal, training, disturbance, StormSaid}
-use Rattle.heading.specs.Paper.{paper_bbb, paper_heading, paper_basin, paper_class, paper_id, paper_named}
+use Rattle.heading.specs.Paper.{paper_bbb, paper_heading, paper_basin, paper_class, paper_id, paper_storm, paper_named}
 use Rattle.heading.specs.declared.Bbb.{Bbb}
 use Rattle.heading.specs.declared.Heading.{Heading}
 use Rattle.heading.specs.declared.Basin.{Basin}
@@ -17,6 +17,8 @@ use Rattle.heading.specs.declared.Basin.TheVariants.{Al, Sl, Ep, Cp, Wp}
 use Rattle.heading.specs.declared.Class.{Class}
 use Rattle.heading.specs.declared.Class.TheVariants.{Cyclone, Internal, Training, Disturbance}
 use Rattle.heading.specs.declared.StormId.{StormId}
+use Rattle.heading.specs.declared.Storm.{Storm}
+use Rattle.heading.specs.declared.Storm.TheVariants as found
 use Rattle.refusal.specs.declared.Reason.{Reason}
 use Rattle.refusal.specs.declared.Reason.TheVariants.{WrongStorm}
 
@@ -72,30 +74,30 @@ id_one i j p =
     let c : i.class ≡ j.class = sym (class_by_lem i.class) ∙ ap class_by (λ k. (p k).class) ∙ class_by_lem j.class in
     λ k. record { basin = b k; class = c k; number = (p k).number; year = (p k).year }
 
-pub storm_one : (a b : Option StormId) → option_map paper_id a ≡ option_map paper_id b → a ≡ b
-storm_one None None e = refl
-storm_one None (Some j) e = apart cc
-storm_one (Some i) None e = apart cc
-storm_one (Some i) (Some j) e =
+pub storm_one : (a b : Storm) → paper_storm a ≡ paper_storm b → a ≡ b
+storm_one found.None found.None e = refl
+storm_one found.None (found.Found j) e = apart cc
+storm_one (found.Found i) found.None e = apart cc
+storm_one (found.Found i) (found.Found j) e =
     let p : paper_id i ≡ paper_id j = cc in
-    ap Some (id_one i j p)
+    ap found.Found (id_one i j p)
 
-abbrev Wrong_only : Result (Option StormId) Reason → Type 0
+abbrev Wrong_only : Result Storm Reason → Type 0
 Wrong_only r = IfErr r (λ (w : Reason). w ≡ WrongStorm)
 
-two_named : (a b : Result (Option StormId) Reason) → Wrong_only a → Wrong_only b → paper_named a ≡ paper_named b → a ≡ b
-two_named (Ok None) (Ok None) v w e = refl
-two_named (Ok None) (Ok (Some j)) v w e = apart cc
-two_named (Ok None) (Err y) v w e = apart cc
-two_named (Ok (Some i)) (Ok None) v w e = apart cc
-two_named (Ok (Some i)) (Ok (Some j)) v w e =
+two_named : (a b : Result Storm Reason) → Wrong_only a → Wrong_only b → paper_named a ≡ paper_named b → a ≡ b
+two_named (Ok found.None) (Ok found.None) v w e = refl
+two_named (Ok found.None) (Ok (found.Found j)) v w e = apart cc
+two_named (Ok found.None) (Err y) v w e = apart cc
+two_named (Ok (found.Found i)) (Ok found.None) v w e = apart cc
+two_named (Ok (found.Found i)) (Ok (found.Found j)) v w e =
     let p : paper_id i ≡ paper_id j = cc in
-    ap (λ (id : StormId). Ok (Some id)) (id_one i j p)
-two_named (Ok (Some i)) (Err y) v w e = apart cc
-two_named (Err x) (Ok None) v w e = apart cc
-two_named (Err x) (Ok (Some j)) v w e = apart cc
+    ap (λ (id : StormId). Ok (found.Found id)) (id_one i j p)
+two_named (Ok (found.Found i)) (Err y) v w e = apart cc
+two_named (Err x) (Ok found.None) v w e = apart cc
+two_named (Err x) (Ok (found.Found j)) v w e = apart cc
 two_named (Err x) (Err y) v w e = ap Err (v ∙ sym w)
 
-pub named_one : {x : StormSaid} (r s : Result (Option StormId) Reason) → IfErr r (λ (w : Reason). w ≡ WrongStorm) → IfErr s (λ (w : Reason). w ≡ WrongStorm)
+pub named_one : {x : StormSaid} (r s : Result Storm Reason) → IfErr r (λ (w : Reason). w ≡ WrongStorm) → IfErr s (λ (w : Reason). w ≡ WrongStorm)
     → paper_named r ≡ x → paper_named s ≡ x → r ≡ s
 named_one r s v w p q = two_named r s v w (p ∙ sym q)

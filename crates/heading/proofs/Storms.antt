@@ -16,7 +16,8 @@ use Rattle.heading.specs.Storm.{storm_form, names_storm, basin_of, class_of, sto
 use Rattle.heading.specs.Paper.{paper_basin, paper_class, paper_named}
 use Rattle.heading.specs.declared.Basin.{Basin}
 use Rattle.heading.specs.declared.Class.{Class}
-use Rattle.heading.specs.declared.StormId.{StormId}
+use Rattle.heading.specs.declared.Storm.{Storm}
+use Rattle.heading.specs.declared.Storm.TheVariants as found
 use Rattle.refusal.specs.declared.Reason.{Reason}
 
 -- ---- a space, two capitals and six digits
@@ -37,15 +38,15 @@ module _ (e : List ℕ) (n : ℕ) (en : n ≡ two_of (drop 2 e)) (f : Option Bas
     storm_zero q w = rw (← en, ← ef, p, ← eg, q)
 
     pub storm_found : (c : Class) → g ≡ Some c → (y z : ℕ) → y ≡ two_of (drop 4 e) → z ≡ two_of (drop 6 e)
-        → paper_named (Ok (Some (record { basin = b; class = c; number = n; year = 100 * y + z }))) ≡ storm_spelled e
+        → paper_named (Ok (found.Found (record { basin = b; class = c; number = n; year = 100 * y + z }))) ≡ storm_spelled e
     storm_found c q y z ey ez = rw (← en, ← ey, ← ez, ← ef, p, ← eg, q)
 
 -- ---- what the office line says
 module _ (s : List ℕ) (t : Bool) (et : t ≡ names_storm s) where
-  pub storm_named : t ≡ true → (e : List ℕ) → e ≡ drop (length s - 8) s → (r : Result (Option StormId) Reason) → paper_named r ≡ storm_spelled e → paper_named r ≡ storm_of s
+  pub storm_named : t ≡ true → (e : List ℕ) → e ≡ drop (length s - 8) s → (r : Result Storm Reason) → paper_named r ≡ storm_spelled e → paper_named r ≡ storm_of s
   unfolding storm_of
   storm_named y e ee r q = q ∙ rw (← et, y, ← ee)
 
-  pub storm_unnamed : t ≡ false → paper_named (Ok None) ≡ storm_of s
+  pub storm_unnamed : t ≡ false → paper_named (Ok found.None) ≡ storm_of s
   unfolding storm_of
   storm_unnamed y = rw (← et, y)

@@ -13,6 +13,8 @@ use Rattle.heading.specs.declared.Basin.TheVariants.{Al, Sl, Ep, Cp, Wp}
 use Rattle.heading.specs.declared.Class.{Class}
 use Rattle.heading.specs.declared.Class.TheVariants.{Cyclone, Internal, Training, Disturbance}
 use Rattle.heading.specs.declared.StormId.{StormId}
+use Rattle.heading.specs.declared.Storm.{Storm}
+use Rattle.heading.specs.declared.Storm.TheVariants as found
 
 -- ---- line 1
 -- a space and BBB, and nothing more
@@ -45,7 +47,11 @@ paper_class Disturbance = disturbance
 abbrev pub paper_id : StormId → StormName
 paper_id id = record { basin = paper_basin id.basin; class = paper_class id.class; number = id.number; year = id.year }
 
-abbrev pub paper_named : Result (Option StormId) Reason → StormSaid
-paper_named (Ok None) = no_storm
-paper_named (Ok (Some id)) = storm (paper_id id)
+abbrev pub paper_storm : Storm → Option StormName
+paper_storm found.None = None
+paper_storm (found.Found id) = Some (paper_id id)
+
+abbrev pub paper_named : Result Storm Reason → StormSaid
+paper_named (Ok found.None) = no_storm
+paper_named (Ok (found.Found id)) = storm (paper_id id)
 paper_named (Err reason) = refused_storm

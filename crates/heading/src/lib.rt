@@ -78,6 +78,13 @@ impl fmt::Display for StormId {
     }
 }
 
+// The storm of an office line, or none. Document 01 names this form: a found storm carries its class within it.
+#[derive(Clone, Copy)]
+pub enum Storm {
+    None,
+    Found(StormId),
+}
+
 // Whether the line's bytes from one place up to another are all from `low` to `high`.
 fn run(line: &[u8], from: usize, to: usize, low: u8, high: u8) -> bool
     requires { from < to }
@@ -203,14 +210,14 @@ fn class_of(n: usize) -> Option<Class>
 
 // The storm that eight bytes name.
 #[tactic(auto, using(crate::proofs::Storms::storm_elsewhere, crate::proofs::Storms::storm_zero, crate::proofs::Storms::storm_found))]
-fn storm_in(e: &[u8]) -> Result<Option<StormId>, Reason>
+fn storm_in(e: &[u8]) -> Result<Storm, Reason>
     ensures is { paper_named result ≡ storm_spelled e.now }
     ensures reason { IfErr result (λ reason. reason ≡ WrongStorm) }
 {
     let number = codes::two(e, 2);
     let basin = basin_of(e).ok_or(Reason::WrongStorm)?;
     let class = class_of(number).ok_or(Reason::WrongStorm)?;
-    Ok(Some(StormId {
+    Ok(Storm::Found(StormId {
         basin,
         class,
         number,
@@ -220,12 +227,12 @@ fn storm_in(e: &[u8]) -> Result<Option<StormId>, Reason>
 
 // What an office line says of a storm.
 #[tactic(auto, using(crate::proofs::Storms::storm_named, crate::proofs::Storms::storm_unnamed))]
-pub fn read_storm(line: &[u8]) -> Result<Option<StormId>, Reason>
+pub fn read_storm(line: &[u8]) -> Result<Storm, Reason>
     ensures is { paper_named result ≡ storm_of line.now }
     ensures reason { IfErr result (λ reason. reason ≡ WrongStorm) }
 {
     if names_storm(line) {
         return storm_in(last(line, 8));
     }
-    Ok(None)
+    Ok(Storm::None)
 }

@@ -5,9 +5,11 @@ use native.Mathlib.Omega.{arith}
 use mathlib.Core.Path.{◌≡◌, refl, sym, ap, ◌∙◌}
 use Rattle.refusal.specs.Answer.{answer_by, answer_of}
 use Rattle.refusal.specs.declared.Refusal.{Refusal}
-use Rattle.heading.specs.Paper.{paper_bbb, paper_id}
+use Rattle.heading.specs.Paper.{paper_bbb, paper_id, paper_storm}
 use Rattle.heading.specs.declared.Bbb.{Bbb}
 use Rattle.heading.specs.declared.StormId.{StormId}
+use Rattle.heading.specs.declared.Storm.{Storm}
+use Rattle.heading.specs.declared.Storm.TheVariants as found
 use Rattle.layout.specs.Rule.{segments_said}
 use Rattle.layout.specs.declared.Changed.{Changed}
 use Rattle.layout.specs.declared.Changed.TheVariants as changed
@@ -48,14 +50,14 @@ module _ (x : Option Bbb) where
       e ∙ ap (λ (y : Option Bbb). bbb_bits (option_map paper_bbb y)) (sym q)
 
 -- ---- a storm
-module _ (s : Option StormId) where
-  pub storm_none : s ≡ None → 0 ≡ storm_bits (option_map paper_id s)
+module _ (s : Storm) where
+  pub storm_none : s ≡ found.None → 0 ≡ storm_bits (paper_storm s)
   unfolding storm_bits
-  storm_none q = ap (λ (x : Option StormId). storm_bits (option_map paper_id x)) (sym q)
+  storm_none q = ap (λ (x : Storm). storm_bits (paper_storm x)) (sym q)
 
-  pub storm_found : (id : StormId) → s ≡ Some id → (r : ℕ) → r ≡ name_bits (paper_id id) → r ≡ storm_bits (option_map paper_id s)
+  pub storm_found : (id : StormId) → s ≡ found.Found id → (r : ℕ) → r ≡ name_bits (paper_id id) → r ≡ storm_bits (paper_storm s)
   unfolding storm_bits
-  storm_found id q r e = e ∙ ap (λ (x : Option StormId). storm_bits (option_map paper_id x)) (sym q)
+  storm_found id q r e = e ∙ ap (λ (x : Storm). storm_bits (paper_storm x)) (sym q)
 
 -- ---- a view
 pub view_none : (a b : ℕ) → b < a → a % start_end ≡ view_bits (record { start = a; size = b - a })

@@ -4,10 +4,10 @@
 ghost use Rattle.std.specs.Prelude.{◌≡◌, option_map, ◌-◌, ◌%◌, ◌≤◌, ◌<◌};
 ghost use Rattle.refusal.specs.Answer.{answer_by, answer_of};
 ghost use Rattle.layout.specs.Rule.{segments_said, value_said};
-ghost use Rattle.heading.specs.Paper.{paper_bbb, paper_basin, paper_class, paper_id};
+ghost use Rattle.heading.specs.Paper.{paper_bbb, paper_basin, paper_class, paper_id, paper_storm};
 ghost use Rattle.packing.specs.Packing.{cell, pack, PacksBy, value_bits, packed, nothing, plain, spelled, bbb_bits, basin_number, class_number, name_bits, storm_bits, view_bits};
 
-use heading::{Basin, Bbb, Class, StormId};
+use heading::{Basin, Bbb, Class, Storm, StormId};
 use layout::{Changed, Reply};
 use refusal::Refusal;
 
@@ -118,12 +118,12 @@ fn pack_id(id: StormId) -> usize
 }
 
 // The storm, 0 for none.
-pub fn pack_storm(storm: Option<StormId>) -> usize
-    ensures { result ≡ storm_bits (option_map paper_id storm) }
+pub fn pack_storm(storm: Storm) -> usize
+    ensures { result ≡ storm_bits (paper_storm storm) }
 {
     match storm {
-        None => 0,
-        Some(id) => pack_id(id),
+        Storm::None => 0,
+        Storm::Found(id) => pack_id(id),
     }
 }
 

@@ -9,10 +9,10 @@ ghost use Rattle.printing.specs.Asked.{asked_of};
 ghost use Rattle.printing.specs.Answer.{refusal_line};
 
 use bulletin::Head;
+use heading::{Bbb, Storm};
 use refusal::Refusal;
 use segments::Segment;
 use sets::Places;
-use std::fmt::Display;
 use std::io;
 use std::io::{Read, Write};
 
@@ -82,11 +82,17 @@ pub fn say_refusal<W: Write>(out: &mut W, r: Refusal) -> io::Result<()>
     writeln!(out, "R {} {}", r.reason.number(), r.place)
 }
 
-// What there is, or `-`.
-fn say_if_any<W: Write, T: Display + Drop>(out: &mut W, item: Option<T>) -> io::Result<()> {
-    match item {
-        Some(item) => write!(out, "{item}"),
-        None => write!(out, "-"),
+fn say_bbb<W: Write>(out: &mut W, bbb: Option<Bbb>) -> io::Result<()> {
+    match bbb {
+        None => say(out, b"-"),
+        Some(bbb) => write!(out, "{bbb}"),
+    }
+}
+
+fn say_storm<W: Write>(out: &mut W, storm: Storm) -> io::Result<()> {
+    match storm {
+        Storm::None => say(out, b"-"),
+        Storm::Found(id) => write!(out, "{id}"),
     }
 }
 
@@ -103,11 +109,11 @@ fn say_head<W: Write>(out: &mut W, text: &[u8], head: Head) -> io::Result<()> {
     write!(out, "H ")?;
     say(out, lines::part(text, 0, 18))?;
     write!(out, " ")?;
-    say_if_any(out, head.heading.bbb)?;
+    say_bbb(out, head.heading.bbb)?;
     write!(out, " ")?;
     say_line(out, text, head.identifier)?;
     write!(out, " ")?;
-    say_if_any(out, head.storm)?;
+    say_storm(out, head.storm)?;
     writeln!(out)
 }
 

@@ -25,19 +25,23 @@ pub fn closes(line: &[u8]) -> bool
 }
 
 // The first line from `from` on, where a line starts, that passes the test `is_sought`.
+// Document 01 names this form: a labelled break yields the found line, or none.
 pub fn first<F: Fn(&[u8]) -> bool>(text: &[u8], from: usize, is_sought: F) -> Option<Span>
     requires { F.IsAlwaysCallable is_sought }
     ensures is { (p : List ℕ → Bool) → Tests F.Fn is_sought p → found_lines text.now result ≡ from_first p (lines_on text.now from) }
     ensures inside { Inside text.now from result }
 {
     let mut at = from;
-    loop {
-        let l = lines::find_line(text, at)?;
+    let found = 'search: loop {
+        let Some(l) = lines::find_line(text, at) else {
+            break 'search None;
+        };
         if is_sought(lines::part(text, at, l.end)) {
-            return Some(l);
+            break 'search Some(l);
         }
         at = l.next;
-    }
+    };
+    found
 }
 
 // The place after the line that starts at `at`; `at` itself, where none does.

@@ -3,10 +3,8 @@ use native.Mathlib.Omega.{arith}
 use Rattle.blocks.specs.Block.{Bytes}
 use Rattle.copies.proofs.Ways.{admitting, working, load_long, load_block, load_few}
 use Rattle.drafts.proofs.CopyReads.{refused_read, absent_read, reads_purge}
-use Rattle.std.specs.Prelude.{None, Some, Ok, Err}
-use Rattle.refusal.specs.Answer.{refusal_for}
-use Rattle.refusal.specs.declared.Reason.TheVariants.{NotTaken}
-use Rattle.refusal.proofs.Exits.{handed, Refuses, none_refused}
+use Rattle.std.specs.Prelude.{Ok, Err}
+use Rattle.refusal.proofs.Exits.{handed}
 use Rattle.std.proofs.Common.{rules}
 use Rattle.drafts.proofs.read_purge.Goals as goal
 
@@ -22,21 +20,18 @@ find_copy-requires c =
     let is : c.admit.result ≡ Ok tt = c.in_ok-admit.was in
     search (admitting, rules)
 
-pub returns-in_err-k : goal.returns-in_err-k
+pub returns-in_default : goal.returns-in_default
 unfolding Bytes
-returns-in_err-k c = let l = c.args.book.now in
+returns-in_default c = let l = c.args.book.now in
     let y : Bytes l = λ i. omega (arith, c.shared_slice_known-1.given i) in
     let is : c.admit.result ≡ Ok tt = c.in_ok-admit.was in
-    let p : Refuses c.find_copy.result (refusal_for NotTaken 0) c.from_residual-in_err-k.result = search (none_refused, rules) in
-    let n : c.find_copy.result ≡ None = p.nothing in
-    rw p.is (search (absent_read, y, rules))
+    search (absent_read, y, rules)
 
 pub as_book-requires : goal.as_book-requires
 unfolding Bytes
 as_book-requires c = let l = c.args.book.now in
     let y : Bytes l = λ i. omega (arith, c.shared_slice_known-1.given i) in
     let is : c.admit.result ≡ Ok tt = c.in_ok-admit.was in
-    let q : c.find_copy.result ≡ Some c.in_ok-k.k = grind arith in
     search (load_long, y, rules)
 
 pub load-h-requires : goal.load-h-requires
@@ -44,7 +39,6 @@ unfolding Bytes
 load-h-requires c = let l = c.args.book.now in
     let y : Bytes l = λ i. omega (arith, c.shared_slice_known-1.given i) in
     let is : c.admit.result ≡ Ok tt = c.in_ok-admit.was in
-    let q : c.find_copy.result ≡ Some c.in_ok-k.k = grind arith in
     (search (load_block, y, rules), rw c.as_book.ensures (search (load_few, y, rules)))
 
 pub returns : goal.returns
@@ -52,6 +46,5 @@ unfolding Bytes
 returns c = let l = c.args.book.now in
     let y : Bytes l = λ i. omega (arith, c.shared_slice_known-1.given i) in
     let is : c.admit.result ≡ Ok tt = c.in_ok-admit.was in
-    let q : c.find_copy.result ≡ Some c.in_ok-k.k = grind arith in
     let holds = rw c.as_book.ensures at c.load-h.ensures.is in
     search (reads_purge, working, y, holds, rules)

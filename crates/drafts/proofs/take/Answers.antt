@@ -20,9 +20,9 @@ find_copy-requires c =
     let is : c.admit.result ≡ Ok tt = c.in_ok-admit.was in
     search (take_admitted, rules)
 
-pub returns-then-is_some : goal.returns-then-is_some
+pub returns-in_default : goal.returns-in_default
 unfolding Bytes
-returns-then-is_some c = let l = c.args.book.now in
+returns-in_default c = let l = c.args.book.now in
     let y : Bytes l = λ i. omega (arith, c.slice_known-1.given i) in
     let is : c.admit.result ≡ Ok tt = c.in_ok-admit.was in
     search (take_again, y, rules)
@@ -65,5 +65,5 @@ returns c = let l = c.args.book.now in
     let y : Bytes l = λ i. omega (arith, c.slice_known-1.given i) in
     let is : c.admit.result ≡ Ok tt = c.in_ok-admit.was in
     take_does l y _ _ _ is c.admit.ensures _ c.find_copy.ensures
-    _ c.is_some.ensures c.if-is_some.false _ c.count_taken-n.ensures c.if-n-ge2.false _
+    c.in-NotTaken.is _ c.count_taken-n.ensures c.if-n-ge2.false _
     (rw c.as_book_mut-book.ensures.value at c.take_copy.ensures) _ c.seal_index.ensures

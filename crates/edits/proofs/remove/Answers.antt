@@ -3,11 +3,9 @@ use mathlib.Core.Bool.{not}
 use native.Mathlib.Omega.{arith}
 use Rattle.blocks.specs.Block.{Bytes}
 use Rattle.copies.proofs.Ways.{refused_does, admitting, ranging, working, load_long, load_block, load_few, absent_does}
-use Rattle.edits.proofs.Ways.{place_low, held_up, remove_none, remove_only, remove_old}
-use Rattle.std.specs.Prelude.{None, Some, Ok, Err}
-use Rattle.refusal.specs.Answer.{refusal_for}
-use Rattle.refusal.specs.declared.Reason.TheVariants.{NotTaken}
-use Rattle.refusal.proofs.Exits.{handed, Refuses, none_refused}
+use Rattle.edits.proofs.Ways.{place_low, remove_none, remove_only, remove_old}
+use Rattle.std.specs.Prelude.{Ok, Err}
+use Rattle.refusal.proofs.Exits.{handed}
 use Rattle.std.proofs.Common.{rules}
 use Rattle.edits.proofs.remove.Goals as goal
 
@@ -23,21 +21,18 @@ find_copy-requires c =
     let is : c.admit.result ≡ Ok tt = c.in_ok-admit.was in
     search (admitting, rules)
 
-pub returns-in_err-k : goal.returns-in_err-k
+pub returns-in_default : goal.returns-in_default
 unfolding Bytes
-returns-in_err-k c = let l = c.args.book.now in
+returns-in_default c = let l = c.args.book.now in
     let y : Bytes l = λ i. omega (arith, c.slice_known-1.given i) in
     let is : c.admit.result ≡ Ok tt = c.in_ok-admit.was in
-    let p : Refuses c.find_copy.result (refusal_for NotTaken 0) c.from_residual-in_err-k.result = search (none_refused, rules) in
-    let n : c.find_copy.result ≡ None = p.nothing in
-    rw p.is (search (absent_does, ranging, y, rules))
+    search (absent_does, ranging, y, rules)
 
 pub as_book-requires : goal.as_book-requires
 unfolding Bytes
 as_book-requires c = let l = c.args.book.now in
     let y : Bytes l = λ i. omega (arith, c.slice_known-1.given i) in
     let is : c.admit.result ≡ Ok tt = c.in_ok-admit.was in
-    let q : c.find_copy.result ≡ Some c.in_ok-k.k = grind arith in
     search (load_long, y, rules)
 
 pub load-h-requires : goal.load-h-requires
@@ -45,7 +40,6 @@ unfolding Bytes
 load-h-requires c = let l = c.args.book.now in
     let y : Bytes l = λ i. omega (arith, c.slice_known-1.given i) in
     let is : c.admit.result ≡ Ok tt = c.in_ok-admit.was in
-    let q : c.find_copy.result ≡ Some c.in_ok-k.k = grind arith in
     (search (load_block, y, rules), rw c.as_book.ensures (search (load_few, y, rules)))
 
 pub overflow_cast-place : goal.overflow_cast-place
@@ -58,8 +52,7 @@ unfolding Bytes
 returns-then-not-has_place c = let l = c.args.book.now in
     let y : Bytes l = λ i. omega (arith, c.slice_known-1.given i) in
     let is : c.admit.result ≡ Ok tt = c.in_ok-admit.was in
-    let q : c.find_copy.result ≡ Some c.in_ok-k.k = grind arith in
-    let w = working l y _ _ _ _ is c.admit.ensures _ c.find_copy.ensures _ q in
+    let w = working l y _ _ _ _ is c.admit.ensures _ c.find_copy.ensures _ c.in-Copy.is in
     let r = ranging l _ _ _ _ is c.admit.ensures in
     remove_none l _ _ _ w _ c.load-h.ensures.fits (rw c.as_book.ensures at c.load-h.ensures.is) _ _ refl r _ c.has_place.ensures (ap not c.if-not-has_place.true)
 
@@ -68,18 +61,16 @@ unfolding Bytes
 returns-then-h-eq1 c = let l = c.args.book.now in
     let y : Bytes l = λ i. omega (arith, c.slice_known-1.given i) in
     let is : c.admit.result ≡ Ok tt = c.in_ok-admit.was in
-    let q : c.find_copy.result ≡ Some c.in_ok-k.k = grind arith in
-    let w = working l y _ _ _ _ is c.admit.ensures _ c.find_copy.ensures _ q in
+    let w = working l y _ _ _ _ is c.admit.ensures _ c.find_copy.ensures _ c.in-Copy.is in
     let r = ranging l _ _ _ _ is c.admit.ensures in
-    remove_only l _ _ _ w _ c.load-h.ensures.fits (rw c.as_book.ensures at c.load-h.ensures.is) _ _ refl r _ c.has_place.ensures (ap not c.if-not-has_place.false) c.if-h-eq1.true _ c.into.ensures
+    remove_only l _ _ _ w _ c.load-h.ensures.fits (rw c.as_book.ensures at c.load-h.ensures.is) _ _ refl r _ c.has_place.ensures (ap not c.if-not-has_place.false) c.if-h-eq1.true _ c.into-then-h-eq1.ensures
 
 pub store_held-requires : goal.store_held-requires
 unfolding Bytes
 store_held-requires c = let l = c.args.book.now in
     let y : Bytes l = λ i. omega (arith, c.slice_known-1.given i) in
     let is : c.admit.result ≡ Ok tt = c.in_ok-admit.was in
-    let q : c.find_copy.result ≡ Some c.in_ok-k.k = grind arith in
-    let w = working l y _ _ _ _ is c.admit.ensures _ c.find_copy.ensures _ q in
+    let w = working l y _ _ _ _ is c.admit.ensures _ c.find_copy.ensures _ c.in-Copy.is in
     record { book_len = (w.long, w.block); fits = search rules }
 
 pub returns : goal.returns
@@ -87,7 +78,6 @@ unfolding Bytes
 returns c = let l = c.args.book.now in
     let y : Bytes l = λ i. omega (arith, c.slice_known-1.given i) in
     let is : c.admit.result ≡ Ok tt = c.in_ok-admit.was in
-    let q : c.find_copy.result ≡ Some c.in_ok-k.k = grind arith in
-    let w = working l y _ _ _ _ is c.admit.ensures _ c.find_copy.ensures _ q in
+    let w = working l y _ _ _ _ is c.admit.ensures _ c.find_copy.ensures _ c.in-Copy.is in
     let r = ranging l _ _ _ _ is c.admit.ensures in
     remove_old l _ _ _ w _ c.load-h.ensures.fits (rw c.as_book.ensures at c.load-h.ensures.is) _ _ refl r _ c.has_place.ensures (ap not c.if-not-has_place.false) c.if-h-eq1.false _ c.without_place-new.ensures.is c.without_place-new.ensures.fits _ c.store_held.ensures

@@ -5,5 +5,5 @@ use Rattle.packing.proofs.pack_storm.Goals as goal
 pub returns-in-None : goal.returns-in-None
 returns-in-None c = search (storm_none, rules)
 
-pub returns-in-Some : goal.returns-in-Some
-returns-in-Some c = search (storm_found, rules)
+pub returns-in-Found : goal.returns-in-Found
+returns-in-Found c = search (storm_found, rules)
