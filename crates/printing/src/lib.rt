@@ -6,7 +6,7 @@ ghost use Rattle.std.specs.Io.KnownBytes.{Appends, Consumes, IsAtEnd};
 ghost use Rattle.lines.specs.Bytes.{digit};
 ghost use Rattle.sets.specs.Held.{Good};
 ghost use Rattle.printing.specs.Asked.{asked_of};
-ghost use Rattle.printing.specs.Answer.{refusal_line};
+ghost use Rattle.printing.specs.Answer.{refusal_line, segment_front};
 
 use bulletin::Head;
 use heading::{Bbb, Storm};
@@ -149,6 +149,13 @@ fn say_block<W: Write>(out: &mut W, places: Places, purge: usize) -> io::Result<
     Ok(())
 }
 
+// The front of a segment's line: its number, purge minute and count.
+fn say_front<W: Write>(out: &mut W, number: usize, segment: Segment) -> io::Result<()>
+    ensures { OnOk result (Appends (W.contents out.old) (W.contents out.new) (segment_front number segment)) }
+{
+    write!(out, "S {number} {} {} ", segment.purge, segment.count)
+}
+
 // A segment's number, purge minute, count and written block without line ends.
 fn say_segment<W: Write>(
     out: &mut W,
@@ -157,7 +164,7 @@ fn say_segment<W: Write>(
     number: usize,
     segment: Segment,
 ) -> io::Result<()> {
-    write!(out, "S {number} {} {} ", segment.purge, segment.count)?;
+    say_front(out, number, segment)?;
     if let Ok(content) = reading::read_content(text, segment.start, issue) {
         say_block(out, content.places, segment.purge)?;
     }

@@ -1,9 +1,11 @@
 // The replay program: bulletins, and after each a list of calls on its book; it prints a line for each.
 #![tactic(auto)]
 
-ghost use Rattle.std.specs.Prelude.{◌≡◌, option_map, Some, ◌+◌, ◌*◌, ◌≤◌, ◌<◌, length, get_or, drop, IfOk};
+ghost use Rattle.std.specs.Prelude.{◌≡◌, option_map, Some, ◌+◌, ◌*◌, ◌≤◌, ◌<◌, length, get_or, drop, IfOk, OnOk};
 ghost use Rattle.std.specs.Prelude.{None, Some};
+ghost use Rattle.std.specs.Io.KnownBytes.{Appends};
 ghost use Rattle.lines.specs.Bytes.{lf};
+ghost use Rattle.replay.specs.Answers.{unknown_line, changed_line, reply_line, verdict_line, view_line, written_front, edited_line, sum_line};
 ghost use Rattle.replay.specs.Lines.{call_line, line_up_to, case_of, number_from, paper_line, paper_source, lines_within};
 ghost use Rattle.replay.specs.Lines.{weighted_sum, text_asked, replaced, after_line, paper_progress, Onward};
 
@@ -155,11 +157,15 @@ fn read_opening(input: &[u8], at: usize) -> Option<Source>
 // ---- answers
 // A write that fails ends the program with its error: no line is done after it, and what was done stays done.
 // The answer to a line that is no call.
-fn say_unknown<W: Write>(to: &mut W) -> io::Result<()> {
+fn say_unknown<W: Write>(to: &mut W) -> io::Result<()>
+    ensures { OnOk result (Appends (W.contents to.old) (W.contents to.new) unknown_line) }
+{
     writeln!(to, "?")
 }
 
-fn say_changed<W: Write>(to: &mut W, c: Changed) -> io::Result<()> {
+fn say_changed<W: Write>(to: &mut W, c: Changed) -> io::Result<()>
+    ensures { OnOk result (Appends (W.contents to.old) (W.contents to.new) (changed_line c)) }
+{
     match c {
         Changed::Nothing => writeln!(to, "S"),
         Changed::One(a) => writeln!(to, "S {a}"),
@@ -167,22 +173,55 @@ fn say_changed<W: Write>(to: &mut W, c: Changed) -> io::Result<()> {
     }
 }
 
-fn say_reply<W: Write>(to: &mut W, reply: Result<Reply, Refusal>) -> io::Result<()> {
+fn say_reply<W: Write>(to: &mut W, reply: Result<Reply, Refusal>) -> io::Result<()>
+    ensures { OnOk result (Appends (W.contents to.old) (W.contents to.new) (reply_line reply)) }
+{
     match reply {
         Ok(Reply::Draft(d)) => writeln!(to, "D {d}"),
         Ok(Reply::Done) => writeln!(to, "K"),
         Ok(Reply::Number(n)) => writeln!(to, "V {n}"),
-        Ok(Reply::Was(there)) => writeln!(to, "V {}", usize::from(there)),
+        Ok(Reply::Was(true)) => writeln!(to, "V 1"),
+        Ok(Reply::Was(false)) => writeln!(to, "V 0"),
         Ok(Reply::Segments(c)) => say_changed(to, c),
         Err(r) => printing::say_refusal(to, r),
     }
 }
 
-fn say_verdict<W: Write>(to: &mut W, verdict: Result<(), Refusal>) -> io::Result<()> {
+fn say_verdict<W: Write>(to: &mut W, verdict: Result<(), Refusal>) -> io::Result<()>
+    ensures { OnOk result (Appends (W.contents to.old) (W.contents to.new) (verdict_line verdict)) }
+{
     match verdict {
         Ok(()) => writeln!(to, "K"),
         Err(r) => printing::say_refusal(to, r),
     }
+}
+
+// The start and the length of a segment that a view gives.
+fn say_view<W: Write>(to: &mut W, start: usize, size: usize) -> io::Result<()>
+    ensures { OnOk result (Appends (W.contents to.old) (W.contents to.new) (view_line start size)) }
+{
+    writeln!(to, "G {start} {size}")
+}
+
+// The length of a written block; the output follows.
+fn say_written<W: Write>(to: &mut W, n: usize) -> io::Result<()>
+    ensures { OnOk result (Appends (W.contents to.old) (W.contents to.new) (written_front n)) }
+{
+    write!(to, "W {n} ")
+}
+
+// The length of an edited bulletin, and the sum of the output.
+fn say_edited<W: Write>(to: &mut W, n: usize, sum: usize) -> io::Result<()>
+    ensures { OnOk result (Appends (W.contents to.old) (W.contents to.new) (edited_line n sum)) }
+{
+    writeln!(to, "F {n} {sum}")
+}
+
+// The sum of the buffer.
+fn say_sum<W: Write>(to: &mut W, sum: usize) -> io::Result<()>
+    ensures { OnOk result (Appends (W.contents to.old) (W.contents to.new) (sum_line sum)) }
+{
+    writeln!(to, "Z {sum}")
 }
 
 // The last hex digit of n.
@@ -303,7 +342,7 @@ fn write_line<W: Write>(to: &mut W, book: &[u8], s: usize, room: usize) -> io::R
     };
     match making::write(book, s, out) {
         Ok(n) => {
-            write!(to, "W {n} ")?;
+            say_written(to, n)?;
             say_hex(to, out)?;
             writeln!(to)
         }
@@ -323,7 +362,7 @@ fn view_line<W: Write>(
         Err(r) => printing::say_refusal(to, r),
         Ok(segment) => {
             let size = bulletin::view(text, year, month, n).len();
-            writeln!(to, "G {} {size}", segment.start)
+            say_view(to, segment.start, size)
         }
     }
 }
@@ -356,7 +395,7 @@ fn edited_line<W: Write>(to: &mut W, text: &[u8], book: &[u8], room: usize) -> i
         return say_unknown(to);
     };
     match sending::write_edited(text, book, out) {
-        Ok(n) => writeln!(to, "F {n} {}", total(out)),
+        Ok(n) => say_edited(to, n, total(out)),
         Err(r) => printing::say_refusal(to, r),
     }
 }
@@ -444,7 +483,7 @@ fn act<W: Write>(
         Request::Lend(n) => return lend_line(to, lent, n),
         Request::Block(i) => block_line(to, buffer, i)?,
         Request::Byte(at, b) => byte_line(to, buffer, at, b)?,
-        Request::Sum => writeln!(to, "Z {}", total(buffer))?,
+        Request::Sum => say_sum(to, total(buffer))?,
     }
     Ok(lent)
 }
