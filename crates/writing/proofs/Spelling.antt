@@ -5,11 +5,9 @@ use mathlib.Core.Path.{◌≡◌, refl, sym, ap, ◌∙◌}
 use mathlib.Core.Bool.{true}
 use Rattle.std.specs.Prelude.{Option}
 use mathlib.Core.List.{List, [], ◌∷◌, ◌++◌}
-use lib.ListN.{length, set, take, drop, length-append}
-use lib.Seq.{sets-eq, take_all}
-use borrow.Rule.Slice.PartMut.{put_mid}
-use Rattle.std.proofs.lemmas.Slice.{put_mid-paste}
-use Rattle.laws.proofs.Stores.{sets_then}
+use lib.ListN.{length, set, length-append}
+use lib.Seq.{sets, take_all}
+use Rattle.laws.proofs.Stores.{Copied, copied_done, sets_then}
 use Rattle.lines.specs.Bytes.{bytes}
 use Rattle.calendar.specs.Calendar.{is_time}
 use Rattle.calendar.proofs.Laws.{time_true}
@@ -26,15 +24,12 @@ module _ (a : List ℕ) (i x : ℕ) where
   pub stored_one : Stored a (set a i x) i (i + 1) (x ∷ [])
   stored_one = record { end = refl; bytes = refl }
 
--- bytes copied over a part
-pub stored_part : (a : List ℕ) (i : ℕ) (xs ys : List ℕ) → ys ≡ xs → i + length xs ≤ length a → Stored a (put_mid i (i + length xs - i) a ys) i (i + length xs) xs
-stored_part a i xs ys e h =
+-- bytes copied one by one
+pub stored_all : (a b : List ℕ) (i n : ℕ) (xs : List ℕ) → Copied a b i xs (length xs) n → length xs ≤ n → Stored a b i (i + length xs) xs
+stored_all a b i n xs v h =
     record {
       end = refl;
-      bytes =
-          put_mid-paste i (i + length xs - i) a ys xs (length xs) e (omega arith) refl
-          ∙ ap (λ (t : List ℕ). take i a ++ t ++ drop (i + length xs) a) (take_all (length xs) xs (omega arith))
-          ∙ sym (sets-eq xs a i h);
+      bytes = copied_done a b i xs (length xs) n v h ∙ ap (λ (t : List ℕ). sets a i t) (take_all (length xs) xs (omega arith));
     }
 
 -- one text behind the other

@@ -72,14 +72,15 @@ fn is_last(last: Option<usize>, p: u32) -> bool
     last == Some(p as usize)
 }
 
-// Copies bytes to pos, and answers the place behind them.
+// Copies bytes to pos, and answers the place behind them. One by one: `copy_from_slice` is a call of memmove, and an element's parts are two or three bytes.
 pub fn put(out: &mut [u8], pos: usize, bytes: &[u8]) -> usize
     requires { pos + length bytes.now ≤ length out.old }
     ensures { Stored out.old out.new pos result bytes.now }
 {
-    let end = pos + bytes.len();
-    out[pos..end].copy_from_slice(bytes);
-    end
+    for i in 0..bytes.len() {
+        out[pos + i] = bytes[i];
+    }
+    pos + bytes.len()
 }
 
 fn put_two(out: &mut [u8], pos: usize, n: usize) -> usize
