@@ -2,7 +2,7 @@
 use mathlib.Core.Path.{◌≡◌, refl, sym, ap, ap₂, ◌∙◌, subst}
 use mathlib.Core.Bool.{true, false≢true, ◌&&◌}
 use mathlib.Core.List.{List, [], ◌∷◌, ◌++◌, append_assoc}
-use Rattle.std.specs.Prelude.{None, Some}
+use Rattle.std.specs.Prelude.{Option, None, Some}
 use Prim.Native.Nat.{ℕ, suc, ◌+◌, ◌*◌, ◌-◌, ◌/◌, ◌%◌, ◌≤◌, ◌<◌}
 use native.Mathlib.Omega.{arith}
 use lib.ListN.{length, take, drop, get_or, set, replicate, length-replicate, get_or-replicate, length-drop, length-append}
@@ -65,6 +65,10 @@ used_length c h = sealed_length (content_bytes c) ∙ content_length c h
 pub unused_length : length (holding None) ≡ block_length
 unfolding holding
 unused_length = sealed_length (replicate block_length 0) ∙ length-replicate {A = ℕ} block_length 0
+
+pub holding_length : (o : Option Content) → ((c : Content) → o ≡ Some c → length c.places ≤ capacity) → length (holding o) ≡ block_length
+holding_length None h = unused_length
+holding_length (Some c) h = used_length c (h c refl)
 
 -- ---- what the tests say
 -- a sound content

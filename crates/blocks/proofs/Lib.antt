@@ -7,3 +7,4 @@ pub mod Scans
 pub mod Used
 pub mod Emptied
 pub mod Stored
+pub mod Parts

@@ -53,6 +53,14 @@ rise_next : (b p : ℕ) (ps : List ℕ) → ascends b (p ∷ ps) ≡ true → as
 unfolding ascends
 rise_next b p ps h = and_right (leb b p && ltb p places_end) (ascends (suc p) ps) h
 
+-- no place below the first is there
+pub rise_absent : (p b : ℕ) (ps : List ℕ) → p < b → ascends b ps ≡ true → member p ps ≡ false
+unfolding member
+rise_absent p b [] h e = refl
+rise_absent p b (q ∷ qs) h e =
+    let l = rise_low b q qs e in
+    member_later p q qs (omega arith) ∙ rise_absent p (suc q) qs (omega arith) (rise_next b q qs e)
+
 -- ---- whether a place is there
 eqb_turned : (x y : ℕ) → eqb x y ≡ eqb y x
 eqb_turned x y = by (eqb x y) (λ t. t ∙ sym (eq-eqb y x (sym (eqb-true x y t)))) (λ t. t ∙ sym (ne_eqb y x (λ e. eqb-false x y t (sym e))))

@@ -213,6 +213,10 @@ unfolding body_of first_piece
 body_take [] = refl
 body_take (b ∷ t) = rw (body_first b t) (by (ends_line (end_at (b ∷ t))) (λ p. rw p) (λ p. rw p (ap (λ (r : List ℕ). b ∷ r) (body_take t))))
 
+pub end_within : (s : List ℕ) (at : ℕ) → at ≤ length s → end_of s at ≤ length s
+unfolding end_of
+end_within s at h = omega (arith, body_length (drop at s), length-drop at s)
+
 pub next_within : (s : List ℕ) (at : ℕ) → at ≤ length s → next_of s at ≤ length s
 unfolding next_of
 next_within s at h = omega (arith, first_length lf (drop at s), length-drop at s)
