@@ -15,7 +15,7 @@ returns-in_err-purge-clause-is c =
 
 pub returns-then-block-clause-is : goal.returns-then-block-clause-is
 returns-then-block-clause-is c =
-    let q : c.purge_of.result ≡ Some c.in_ok-purge.purge = grind arith in
+    let given : c.purge_of.result ≡ Some c.in_ok-purge.purge = grind arith in
     search (content_many, rules)
 
 pub returns-clause-is : goal.returns-clause-is
