@@ -1,5 +1,6 @@
 -- What the code's answers mean in document 01's values, and what a function inside says of the bytes behind DDHHMM.
-use Rattle.std.specs.Prelude.{ℕ, List, [], ◌∷◌, ◌++◌, Bool, ◌||◌}
+use Rattle.std.specs.Prelude.{ℕ, ◌-◌, ◌^◌, List, [], ◌∷◌, ◌++◌, Bool, ◌||◌}
+use Rattle.std.specs.Fmt.{format_spec, styled_decimal}
 use Rattle.std.specs.Prelude.{Option, None, Some, option_map, Result, Ok, Err}
 use Prim.Native.String.{String}
 use Rattle.refusal.specs.declared.Reason.{Reason}
@@ -55,3 +56,12 @@ abbrev pub paper_named : Result Storm Reason → StormSaid
 paper_named (Ok found.None) = no_storm
 paper_named (Ok (found.Found id)) = storm (paper_id id)
 paper_named (Err reason) = refused_storm
+
+-- ---- what is printed
+-- a number in at least so many digits, with zeros before it: std's word for `{:02}` where the width is 2
+abbrev pub zero_padded : ℕ → ℕ → List ℕ
+zero_padded width n = styled_decimal (format_spec 32 0 4 width (2 ^ 64 - 1)) n
+
+-- "two capitals and six digits": the basin, the number and the year
+abbrev pub storm_text : StormId → List ℕ
+storm_text id = paper_basin id.basin ++ (zero_padded 2 id.number ++ zero_padded 4 id.year)

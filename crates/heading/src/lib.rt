@@ -1,12 +1,12 @@
 // Line 1, line 2 and the office line of a bulletin: document 01, "Text and lines".
 #![tactic(auto)]
 
-ghost use Rattle.std.specs.Prelude.{◌≡◌, if◌then◌else◌, option_map, ◌-◌, ◌≤◌, ◌<◌, Some, length, get_or, drop, IfErr};
+ghost use Rattle.std.specs.Prelude.{◌≡◌, ◌++◌, encode_utf8, if◌then◌else◌, option_map, ◌-◌, ◌≤◌, ◌<◌, Some, length, get_or, drop, IfErr};
 ghost use Rattle.refusal.specs.declared.Reason.TheVariants.{WrongStorm};
 ghost use Rattle.lines.specs.Bytes.{between, begins};
 ghost use Rattle.heading.specs.Heading.{times, heading_form, bbb_after, heading_of, capital_or_digit, is_identifier};
 ghost use Rattle.heading.specs.Storm.{is_office, names_storm, basin_of, class_of, storm_spelled, storm_of};
-ghost use Rattle.heading.specs.Paper.{is_amendment, paper_bbb, paper_heading, paper_basin, paper_class, paper_named};
+ghost use Rattle.heading.specs.Paper.{is_amendment, paper_bbb, paper_heading, paper_basin, paper_class, paper_named, storm_text};
 
 use calendar::Stamp;
 use refusal::Reason;
@@ -17,6 +17,8 @@ use std::fmt;
 pub struct Bbb(pub u8, pub u8, pub u8);
 
 impl fmt::Display for Bbb {
+    ghost output = { λ bbb. Some (encode_utf8 bbb.0 ++ (encode_utf8 bbb.1 ++ encode_utf8 bbb.2)) };
+
     fn fmt<W: fmt::Write>(&self, f: &mut fmt::Formatter<W>) -> fmt::Result {
         let Bbb(a, b, c) = *self;
         write!(f, "{}{}{}", a as char, b as char, c as char)
@@ -73,6 +75,8 @@ pub struct StormId {
 
 // The basin, the number's two digits and the year's four, as an office line has them.
 impl fmt::Display for StormId {
+    ghost output = { λ id. Some (storm_text id) };
+
     fn fmt<W: fmt::Write>(&self, f: &mut fmt::Formatter<W>) -> fmt::Result {
         write!(f, "{}{:02}{:04}", self.basin, self.number, self.year)
     }
