@@ -7,11 +7,11 @@ use lib.ListN.{take, drop}
 use borrow.Rule.Slice.PartMut.{put_mid}
 use Rattle.blocks.specs.Block.{block_of, put_block}
 
-part_is : (i : ℕ) (l : List ℕ) → take (i * 512 + 512 - i * 512) (drop (i * 512) l) ≡ block_of i l
+pub part_is : (i : ℕ) (l : List ℕ) → take (i * 512 + 512 - i * 512) (drop (i * 512) l) ≡ block_of i l
 unfolding block_of
 part_is i l = rw add-sub_cancel_left
 
-put_is : (i : ℕ) (l b : List ℕ) → put_mid (i * 512) (i * 512 + 512 - i * 512) l b ≡ put_block i b l
+pub put_is : (i : ℕ) (l b : List ℕ) → put_mid (i * 512) (i * 512 + 512 - i * 512) l b ≡ put_block i b l
 unfolding put_block
 put_is i l b = rw add-sub_cancel_left
 

@@ -23,7 +23,9 @@ use Rattle.refusal.specs.declared.Reason.{Reason}
 -- ---- a space, two capitals and six digits
 pub storm_is_lem : (e : List ℕ) → begins storm_form e ≡ (eqb (get_or e 0 0) 32 && begins (times 2 capital) (drop 1 e) && begins (times 6 digit) (drop 3 e))
 storm_is_lem e =
-    simp (begins_append (word " ") (times 2 capital ++ times 6 digit) e, begins_append (times 2 capital) (times 6 digit) (drop 1 e), drop-drop, at_byte e 0 32 refl, and_assoc)
+    let space = begins_append (word " ") (times 2 capital ++ times 6 digit) e in
+    let capitals = begins_append (times 2 capital) (times 6 digit) (drop 1 e) in
+    simp (space, capitals, drop-drop, at_byte e 0 32 refl, and_assoc)
 
 pub names_is : (s e : List ℕ) → e ≡ drop (length s - 9) s →
     names_storm s ≡ (eqb (length e) 9 && eqb (get_or e 0 0) 32 && begins (times 2 capital) (drop 1 e) && begins (times 6 digit) (drop 3 e))

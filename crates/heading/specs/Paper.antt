@@ -1,7 +1,7 @@
 -- What the code's answers mean in document 01's values, and what a function inside says of the bytes behind DDHHMM.
 use Rattle.std.specs.Prelude.{ℕ, ◌-◌, ◌^◌, List, [], ◌∷◌, ◌++◌, Bool, ◌||◌}
-use Rattle.std.specs.Fmt.{format_spec, styled_decimal}
 use Rattle.std.specs.Prelude.{Option, None, Some, option_map, Result, Ok, Err}
+use Rattle.std.specs.Fmt.{format_spec, styled_decimal}
 use Prim.Native.String.{String}
 use Rattle.refusal.specs.declared.Reason.{Reason}
 use Rattle.lines.specs.Bytes.{Kind, bytes, word, exactly}

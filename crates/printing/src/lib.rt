@@ -150,10 +150,10 @@ fn say_block<W: Write>(out: &mut W, places: Places, purge: usize) -> io::Result<
 }
 
 // The front of a segment's line: its number, purge minute and count.
-fn say_front<W: Write>(out: &mut W, number: usize, segment: Segment) -> io::Result<()>
-    ensures { OnOk result (Appends (W.contents out.old) (W.contents out.new) (segment_front number segment)) }
+fn say_front<W: Write>(out: &mut W, n: usize, segment: Segment) -> io::Result<()>
+    ensures { OnOk result (Appends (W.contents out.old) (W.contents out.new) (segment_front n segment)) }
 {
-    write!(out, "S {number} {} {} ", segment.purge, segment.count)
+    write!(out, "S {n} {} {} ", segment.purge, segment.count)
 }
 
 // A segment's number, purge minute, count and written block without line ends.

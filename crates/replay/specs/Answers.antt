@@ -49,16 +49,16 @@ verdict_line (Ok done) = done_line
 verdict_line (Err r) = refusal_line r
 
 -- "`G`, its start and its length"
-abbrev pub view_line : ℕ → ℕ → List ℕ
-view_line start size = bytes "G " ++ (decimal start ++ (bytes " " ++ (decimal size ++ bytes "\n")))
+abbrev pub viewed_line : ℕ → ℕ → List ℕ
+viewed_line start size = bytes "G " ++ (decimal start ++ (bytes " " ++ (decimal size ++ bytes "\n")))
 
 -- "`W`, the length, and the n bytes afterwards in hex": its front
 abbrev pub written_front : ℕ → List ℕ
 written_front n = bytes "W " ++ (decimal n ++ bytes " ")
 
 -- "`F`, the length, and" the sum over the output
-abbrev pub edited_line : ℕ → ℕ → List ℕ
-edited_line n sum = bytes "F " ++ (decimal n ++ (bytes " " ++ (decimal sum ++ bytes "\n")))
+abbrev pub sent_line : ℕ → ℕ → List ℕ
+sent_line n sum = bytes "F " ++ (decimal n ++ (bytes " " ++ (decimal sum ++ bytes "\n")))
 
 -- "`Z` and the value"
 abbrev pub sum_line : ℕ → List ℕ

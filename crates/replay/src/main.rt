@@ -5,7 +5,7 @@ ghost use Rattle.std.specs.Prelude.{◌≡◌, option_map, Some, ◌+◌, ◌*�
 ghost use Rattle.std.specs.Prelude.{None, Some};
 ghost use Rattle.std.specs.Io.KnownBytes.{Appends};
 ghost use Rattle.lines.specs.Bytes.{lf};
-ghost use Rattle.replay.specs.Answers.{unknown_line, changed_line, reply_line, verdict_line, view_line, written_front, edited_line, sum_line};
+ghost use Rattle.replay.specs.Answers.{unknown_line, changed_line, reply_line, verdict_line, viewed_line, written_front, sent_line, sum_line};
 ghost use Rattle.replay.specs.Lines.{call_line, line_up_to, case_of, number_from, paper_line, paper_source, lines_within};
 ghost use Rattle.replay.specs.Lines.{weighted_sum, text_asked, replaced, after_line, paper_progress, Onward};
 
@@ -198,7 +198,7 @@ fn say_verdict<W: Write>(to: &mut W, verdict: Result<(), Refusal>) -> io::Result
 
 // The start and the length of a segment that a view gives.
 fn say_view<W: Write>(to: &mut W, start: usize, size: usize) -> io::Result<()>
-    ensures { OnOk result (Appends (W.contents to.old) (W.contents to.new) (view_line start size)) }
+    ensures { OnOk result (Appends (W.contents to.old) (W.contents to.new) (viewed_line start size)) }
 {
     writeln!(to, "G {start} {size}")
 }
@@ -212,7 +212,7 @@ fn say_written<W: Write>(to: &mut W, n: usize) -> io::Result<()>
 
 // The length of an edited bulletin, and the sum of the output.
 fn say_edited<W: Write>(to: &mut W, n: usize, sum: usize) -> io::Result<()>
-    ensures { OnOk result (Appends (W.contents to.old) (W.contents to.new) (edited_line n sum)) }
+    ensures { OnOk result (Appends (W.contents to.old) (W.contents to.new) (sent_line n sum)) }
 {
     writeln!(to, "F {n} {sum}")
 }

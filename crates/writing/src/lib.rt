@@ -72,7 +72,7 @@ fn is_last(last: Option<usize>, p: u32) -> bool
     last == Some(p as usize)
 }
 
-// Copies bytes to pos, and answers the place behind them. One by one: `copy_from_slice` is a call of memmove, and an element's parts are two or three bytes.
+// Copies bytes to pos, and answers the place behind them. One by one: `copy_from_slice` is here a call of memmove, which the archive for C would need from outside.
 pub fn put(out: &mut [u8], pos: usize, bytes: &[u8]) -> usize
     requires { pos + length bytes.now ≤ length out.old }
     ensures { Stored out.old out.new pos result bytes.now }
